@@ -1,0 +1,39 @@
+-- M1 to M12: one computed test over the table, and one lemma.
+use mathlib.Core.Path.{_≡_, refl}
+use mathlib.Core.Bool.{Bool, true, false, cond}
+use mathlib.Core.List.{List, [], _∷_}
+use Prim.Native.Nat.{ℕ, _<_}
+use lib.ListN.{length, getD}
+use Rattle.protocol.specs.Base.{all}
+use Rattle.protocol.specs.Words.{settingOf, firstWordFits, entryOf, entryFits}
+use Rattle.protocol.specs.Record.{fresh, chosenStart, outcome, correction, correctedClock}
+use Rattle.protocol.specs.Median.{median}
+use Rattle.protocol.specs.Step.{vote, adjust, startsHeld, mayLead, lead, voteReadings, mayAdjust, propose, delivered, effect, isClosed, takeAction, actionOf}
+use Rattle.protocol.specs.Counter.{counterReading}
+use Rattle.protocol.specs.Causes.{sheetVerdict}
+use Rattle.protocol.specs.Run.{recordOf, frameSent, inputOf, stepEntry, andThen, runOf, runSheet}
+use Rattle.protocol.specs.Results.{outcomeWord, adjustmentWord, startWord, wordsFrom, resultWords, replay}
+use Rattle.protocol.specs.Premises.{each, before, lastStart, premise1, premise2, startHeard, premise3, premise4, reached, votesHeard, premise5, quietBetween, premise6, adjustsHeard, premise7, premise8, firstBroken, judge}
+use Rattle.protocol.specs.Claim.{endingInWords}
+use Rattle.protocol.specs.Program.{decimal, signed, line, headLines, refusedLine, printSheet}
+use Rattle.protocol.specs.Marked.{Case, m1, lookAt, marked}
+use Rattle.protocol.proofs.Tests.{sameList, same-list, all-at}
+
+abbrev passes : Case → Bool
+passes c = sameList (c .found) (c .expected)
+
+abbrev nothing : Case
+nothing = record { found = []; expected = [] }
+
+all-pass : all passes marked ≡ true
+unfolding settingOf firstWordFits entryOf entryFits fresh chosenStart outcome correction correctedClock median
+    vote adjust startsHeld mayLead lead voteReadings mayAdjust propose delivered effect isClosed takeAction actionOf counterReading sheetVerdict
+    recordOf frameSent inputOf stepEntry andThen runOf runSheet outcomeWord adjustmentWord startWord wordsFrom resultWords replay
+    each before lastStart premise1 premise2 startHeard premise3 premise4 reached votesHeard premise5 quietBetween premise6 adjustsHeard premise7 premise8 firstBroken judge
+    endingInWords decimal signed line headLines refusedLine printSheet m1 lookAt marked
+all-pass = refl
+
+-- each marked case gives what document 01 says, M1 at index 0
+pub marked-case : (i : ℕ) → i < 12 → getD marked i nothing .found ≡ getD marked i nothing .expected
+unfolding marked
+marked-case i h = same-list (getD marked i nothing .found) (getD marked i nothing .expected) (all-at passes marked nothing all-pass i h)

@@ -1,0 +1,82 @@
+-- Document 01, "The bench sheet, and its neighbours": the cases marked M, as entries of one table.
+use mathlib.Core.List.{List, [], _∷_, _++_}
+use Prim.Native.Nat.{ℕ, _+_, _*_, _^_}
+use lib.ListN.{replicate}
+use lib.IntN.{natAbs}
+use Rattle.protocol.specs.Types.{Setting, Entry}
+use Rattle.protocol.specs.Words.{settingAt, entryAt}
+use Rattle.protocol.specs.Record.{correctedClock}
+use Rattle.protocol.specs.Median.{median}
+use Rattle.protocol.specs.Counter.{counterReading, countedNumbers}
+use Rattle.protocol.specs.Run.{Run, stopped, ran, recordOf, runSheet}
+use Rattle.protocol.specs.Results.{Replay, replay, replayedNumbers}
+use Rattle.protocol.specs.Premises.{judge, judgedNumbers}
+use Rattle.protocol.specs.Program.{printSheet}
+
+-- the three words of an entry: "real time, reading, head, action, sender, serial"
+abbrev pub entry : ℕ → ℕ → ℕ → ℕ → ℕ → ℕ → List ℕ
+entry t a q x p k = (3 * 2 ^ 28 + t) ∷ (4 * 2 ^ 28 + a) ∷ (5 * 2 ^ 28 + x * 2 ^ 24 + q * 2 ^ 20 + p * 2 ^ 16 + k * 2 ^ 12) ∷ []
+
+-- M1, with the second word as a parameter
+unfoldable pub m1 : ℕ → List ℕ
+m1 second =
+    (0x10200003 ∷ second ∷ [])
+    ++ entry 950 1000 1 1 0 0 ++ entry 1000 1000 0 1 0 0 ++ entry 1100 1100 0 2 1 0 ++ entry 1104 1154 1 2 1 0
+    ++ entry 1110 1160 1 3 0 0 ++ entry 1260 1260 0 2 0 0 ++ entry 1263 1313 1 2 0 0 ++ entry 1270 1270 0 3 0 0
+    ++ entry 1300 1300 0 4 0 0 ++ entry 1460 1510 1 5 0 0 ++ entry 1620 1620 0 5 1 0 ++ entry 2000 2000 0 6 0 0
+    ++ entry 2000 2050 1 6 0 0 ++ entry 2100 2100 0 7 0 0 ++ entry 2260 2310 1 8 0 0 ++ entry 2300 2350 1 7 0 0
+    ++ entry 2420 2420 0 8 1 0 ++ entry 3000 3000 0 9 0 0 ++ entry 3000 3050 1 9 0 0 ++ entry 4000 4000 0 0 0 0
+    ++ entry 4000 4050 1 0 0 0
+
+-- answer and buffer of a replay, as numbers
+abbrev pub replayed : Replay → List ℕ
+replayed x = replayedNumbers (x .answer) ++ x .buffer
+
+-- what the look of entry i shows
+abbrev pub clockAfter : Setting → Entry → Run → ℕ
+clockAfter g e (stopped c p) = 0
+clockAfter g e (ran h) = natAbs (correctedClock (recordOf g h (e .head)) (e .reading))
+
+unfoldable pub lookAt : List ℕ → ℕ → ℕ
+lookAt ws i = clockAfter (settingAt ws) (entryAt ws i) (runSheet ws)
+
+-- M1's printed lines in ASCII
+abbrev pub m1Lines : List ℕ
+m1Lines =
+    48 ∷ 32 ∷ 50 ∷ 32 ∷ 48 ∷ 32 ∷ 48 ∷ 32 ∷ 49 ∷ 50 ∷ 54 ∷ 48 ∷ 32 ∷ 49 ∷ 50 ∷ 54 ∷ 48 ∷ 32 ∷ 48 ∷ 10
+    ∷ 49 ∷ 32 ∷ 50 ∷ 32 ∷ 48 ∷ 32 ∷ 48 ∷ 32 ∷ 49 ∷ 50 ∷ 54 ∷ 48 ∷ 32 ∷ 49 ∷ 51 ∷ 49 ∷ 51 ∷ 32 ∷ 45 ∷ 53 ∷ 51 ∷ 10
+    ∷ 112 ∷ 114 ∷ 101 ∷ 109 ∷ 105 ∷ 115 ∷ 101 ∷ 115 ∷ 32 ∷ 48 ∷ 10 ∷ []
+
+-- what the definitions give, and what document 01 says
+pub record Case : Type 0 where
+  pub found : List ℕ
+  pub expected : List ℕ
+
+abbrev pub gives : List ℕ → List ℕ → Case
+gives found expected = record { found = found; expected = expected }
+
+unfoldable pub marked : List Case
+marked =
+    -- M1: the result words and the buffer's seventh word, kept; the premises; the two looks; the printed lines
+    gives (replayed (replay (m1 0x2064000A) (replicate 7 1)) ++ judgedNumbers (judge (m1 0x2064000A))
+    ++ (lookAt (m1 0x2064000A) 19 ∷ lookAt (m1 0x2064000A) 20 ∷ printSheet (m1 0x2064000A)))
+    (0 ∷ 0 ∷ 0x62000000 ∷ 0x700004EC ∷ 0x800004EC ∷ 0x62100000 ∷ 0x700004EC ∷ 0x80000521 ∷ 1 ∷ 0 ∷ 0 ∷ 0 ∷ 4000 ∷ 3997 ∷ m1Lines)
+    -- "M2: M1 with tightness 4 keeps all; M3: with 2, premise 3 is broken"
+    ∷ gives (judgedNumbers (judge (m1 0x20640004))) (0 ∷ 0 ∷ 0 ∷ [])
+    ∷ gives (judgedNumbers (judge (m1 0x20640002))) (0 ∷ 0 ∷ 3 ∷ [])
+    -- "M4: median of 1313, 1260 is 1260; M5: of 5, 9, 7 is 7"
+    ∷ gives (median (1313 ∷ 1260 ∷ []) ∷ []) (1260 ∷ [])
+    ∷ gives (median (5 ∷ 9 ∷ 7 ∷ []) ∷ []) (7 ∷ [])
+    -- "M6: first word 0x1042000F is cause 3; M7: 0x1052001F isn't": with no entries, premise 4 is broken
+    ∷ gives (judgedNumbers (judge (0x1042000F ∷ 0x2064000A ∷ []))) (3 ∷ 0 ∷ 0 ∷ [])
+    ∷ gives (judgedNumbers (judge (0x1052001F ∷ 0x2064000A ∷ []))) (0 ∷ 0 ∷ 4 ∷ [])
+    -- "M8: counter 5, base 4,294,967,290 gives 11. M9: counter 268,435,455, base 0 is accepted, M10: 268,435,456 is cause 11"
+    ∷ gives (countedNumbers (counterReading 5 4294967290)) (0 ∷ 11 ∷ [])
+    ∷ gives (countedNumbers (counterReading 268435455 0)) (0 ∷ 268435455 ∷ [])
+    ∷ gives (countedNumbers (counterReading 268435456 0)) (11 ∷ 0 ∷ [])
+    -- "M11: M1's first two words alone: outcomes 0, premise 4 broken"
+    ∷ gives (replayed (replay (0x10200003 ∷ 0x2064000A ∷ []) (replicate 6 1)) ++ judgedNumbers (judge (0x10200003 ∷ 0x2064000A ∷ [])))
+    (0 ∷ 0 ∷ 0x60000000 ∷ 0x70000000 ∷ 0x80000000 ∷ 0x60100000 ∷ 0x70000000 ∷ 0x80000000 ∷ 0 ∷ 0 ∷ 4 ∷ [])
+    -- "M12: a buffer of 5 words for M1 is cause 5"
+    ∷ gives (replayed (replay (m1 0x2064000A) (replicate 5 1))) (5 ∷ 0 ∷ 1 ∷ 1 ∷ 1 ∷ 1 ∷ 1 ∷ [])
+    ∷ []

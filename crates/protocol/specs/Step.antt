@@ -1,0 +1,190 @@
+-- Document 01, "Actions and steps of one head h": the ten actions, when each is closed, what each does, and the step.
+use mathlib.Core.Bool.{Bool, true, false, cond, not, _&&_, _||_}
+use mathlib.Core.List.{List, [], _∷_}
+use Prim.Native.Nat.{ℕ, zero, suc, _+_}
+use lib.Dec.{ltb, leb, eqb}
+use lib.ListN.{length, getD, set}
+use Rattle.protocol.specs.Base.{countBelow}
+use Rattle.protocol.specs.Types.{Reading, OptReading, NoReading, SomeReading, OptNumber, NoNumber, SomeNumber, Sender, Phase, HeadRecord, Input, Cause, BadEntry, ReadingFell, ActionClosed, BadRecord}
+use Rattle.protocol.specs.Types.{Verdict, Accepted, Refused, Stepped, Frame, NoFrame, Start, Vote, Adjust}
+use Rattle.protocol.specs.Types.{Action, Look, StartSent, StartDelivered, StartConfirmed, VoteTurn, VoteDelivered, VoteClose, AdjustTurn, AdjustDelivered, AdjustClose}
+use Rattle.protocol.specs.Words.{isTime, hasSerial, zeroWhereUnused}
+use Rattle.protocol.specs.Record.{isReading, isNumber, reading, keptOf, startOf, voteOf, recordInRange}
+use Rattle.protocol.specs.Median.{median}
+
+-- a phase, what is kept by a sender, and a record, each with one thing changed
+abbrev pub takeTurn : Phase → Phase
+takeTurn p = record { turn = true; closed = p .closed; choice = p .choice; sent = p .sent }
+
+abbrev pub close : Phase → Phase
+close p = record { turn = p .turn; closed = true; choice = p .choice; sent = p .sent }
+
+abbrev pub choose : ℕ → Phase → Phase
+choose c p = record { turn = p .turn; closed = p .closed; choice = SomeNumber c; sent = p .sent + 1 }
+
+abbrev pub withStart : Sender → OptReading → Sender
+withStart k x = record { start = x; vote = k .vote; voted = k .voted; adjusted = k .adjusted }
+
+abbrev pub withVoteReading : Sender → OptReading → Sender
+withVoteReading k x = record { start = k .start; vote = x; voted = k .voted; adjusted = k .adjusted }
+
+abbrev pub withVoted : Sender → ℕ → Sender
+withVoted k j = record { start = k .start; vote = k .vote; voted = SomeNumber j; adjusted = k .adjusted }
+
+abbrev pub withAdjusted : Sender → ℕ → Sender
+withAdjusted k j = record { start = k .start; vote = k .vote; voted = k .voted; adjusted = SomeNumber j }
+
+abbrev pub withLast : HeadRecord → Reading → HeadRecord
+withLast r x = record { n = r .n; f = r .f; own = r .own; last = x; started = r .started; confirmed = r .confirmed; vote = r .vote; adjust = r .adjust; adjustment = r .adjustment; senders = r .senders }
+
+abbrev pub withMarks : HeadRecord → Bool → Bool → HeadRecord
+withMarks r s c = record { n = r .n; f = r .f; own = r .own; last = r .last; started = s; confirmed = c; vote = r .vote; adjust = r .adjust; adjustment = r .adjustment; senders = r .senders }
+
+abbrev pub withVote : HeadRecord → Phase → HeadRecord
+withVote r p = record { n = r .n; f = r .f; own = r .own; last = r .last; started = r .started; confirmed = r .confirmed; vote = p; adjust = r .adjust; adjustment = r .adjustment; senders = r .senders }
+
+abbrev pub withAdjust : HeadRecord → Phase → Reading → HeadRecord
+withAdjust r p x = record { n = r .n; f = r .f; own = r .own; last = r .last; started = r .started; confirmed = r .confirmed; vote = r .vote; adjust = p; adjustment = x; senders = r .senders }
+
+abbrev pub withSender : HeadRecord → ℕ → Sender → HeadRecord
+withSender r p k = record { n = r .n; f = r .f; own = r .own; last = r .last; started = r .started; confirmed = r .confirmed; vote = r .vote; adjust = r .adjust; adjustment = r .adjustment; senders = set (r .senders) p k }
+
+-- "back come 0 and the frame to send, if any"; a refusal leaves the record
+abbrev pub accepted : HeadRecord → Frame → Stepped
+accepted r x = record { verdict = Accepted; after = r; frame = x }
+
+abbrev pub silent : HeadRecord → Stepped
+silent r = accepted r NoFrame
+
+abbrev pub refused : HeadRecord → Cause → Stepped
+refused r c = record { verdict = Refused c; after = r; frame = NoFrame }
+
+-- "A vote carries the candidate and h's own start reading of it, or the mark "none"; it is also h's own vote reading";
+-- "Serials count a head's votes from 0"
+unfoldable pub vote : ℕ → HeadRecord → Stepped
+vote c r =
+    accepted (withVote (withSender r (r .own) (withVoteReading (keptOf r (r .own)) (startOf r c))) (choose c (r .vote)))
+    (Vote (r .vote .sent) c (startOf r c))
+
+-- an adjust carries adjuster and adjustment
+unfoldable pub adjust : ℕ → Reading → HeadRecord → Stepped
+adjust a x r = accepted (withAdjust r (choose a (r .adjust)) x) (Adjust (r .adjust .sent) a x)
+
+-- "After 2 and 4: once the turn is taken, with the vote open, no candidate and at least f + 1 start readings held,
+-- h becomes its own candidate and votes"
+unfoldable pub startsHeld : HeadRecord → ℕ
+startsHeld r = countBelow (r .n) (λ p. isReading (startOf r p))
+
+unfoldable pub mayLead : HeadRecord → Bool
+mayLead r = r .vote .turn && (not (r .vote .closed) && (not (isNumber (r .vote .choice)) && leb (r .f + 1) (startsHeld r)))
+
+unfoldable pub lead : HeadRecord → Stepped
+lead r = cond (mayLead r) (vote (r .own) r) (silent r)
+
+-- the vote readings held of the senders below p, the last sender's first
+abbrev pub prepend : OptReading → List ℕ → List ℕ
+prepend NoReading l = l
+prepend (SomeReading x) l = x .0 ∷ l
+
+unfoldable pub voteReadings : HeadRecord → ℕ → List ℕ
+voteReadings r zero = []
+voteReadings r (suc p) = prepend (voteOf r p) (voteReadings r p)
+
+-- 7: "With a candidate, no adjuster and at least one vote reading, h becomes adjuster, takes the median of the vote
+-- readings as adjustment and sends both"
+unfoldable pub mayAdjust : HeadRecord → Bool
+mayAdjust r = isNumber (r .vote .choice) && (not (isNumber (r .adjust .choice)) && leb 1 (length (voteReadings r (r .n))))
+
+unfoldable pub propose : HeadRecord → Stepped
+propose r = cond (mayAdjust r) (adjust (r .own) (reading (median (voteReadings r (r .n)))) r) (silent r)
+
+-- 5: "if the serial isn't above the last taken from that sender"
+abbrev pub isAbove : ℕ → OptNumber → Bool
+isAbove k NoNumber = true
+isAbove k (SomeNumber j) = ltb j k
+
+-- 5: "with no candidate, or a carried one of higher rank (lower number)"
+abbrev pub outranks : ℕ → OptNumber → Bool
+outranks c NoNumber = true
+outranks c (SomeNumber v) = ltb c v
+
+-- 5, and 8 "as 5": "No effect after the vote close or if the serial isn't above the last taken from that sender.
+-- Otherwise" the record keeps what it takes of the frame, and a choice that outranks its own is adopted and sent on
+unfoldable pub delivered : Phase → OptNumber → ℕ → ℕ → HeadRecord → HeadRecord → (HeadRecord → Stepped) → Stepped
+delivered phase last serial choice r taken adopt =
+    cond (phase .closed || not (isAbove serial last)) (silent r)
+    (cond (outranks choice (phase .choice)) (adopt taken) (silent taken))
+
+-- what an action does, its reading being the last reading already
+unfoldable pub effect : HeadRecord → Action → Stepped
+-- "0 look: only time and reading"
+effect r Look = silent r
+-- "1 start sent: the start is the frame to send"
+effect r StartSent = accepted (withMarks r true (r .confirmed)) Start
+-- "2 start of the sender delivered, one's own too: its start reading becomes this reading, again at each repeat. No effect after the adjust close"
+effect r (StartDelivered p) = cond (r .adjust .closed) (silent r) (lead (withSender r p (withStart (keptOf r p) (SomeReading (r .last)))))
+-- "3 own start confirmed", "4 vote turn"
+effect r StartConfirmed = silent (withMarks r (r .started) true)
+effect r VoteTurn = lead (withVote r (takeTurn (r .vote)))
+-- "5 vote delivered .. the carried reading (or none) becomes the sender's vote reading"
+effect r (VoteDelivered p k c x) = delivered (r .vote) (keptOf r p .voted) k c r (withSender r p (withVoted (withVoteReading (keptOf r p) x) k)) (vote c)
+-- "6 vote close", "7 adjust turn"
+effect r VoteClose = silent (withVote r (close (r .vote)))
+effect r AdjustTurn = propose (withAdjust r (takeTurn (r .adjust)) (r .adjustment))
+-- "8 adjust delivered: as 5, with adjuster and adjustment, until the adjust close; taken before the vote close too"
+effect r (AdjustDelivered p k a x) = delivered (r .adjust) (keptOf r p .adjusted) k a r (withSender r p (withAdjusted (keptOf r p) k)) (adjust a x)
+-- "9 adjust close"
+effect r AdjustClose = silent (withAdjust r (close (r .adjust)) (r .adjustment))
+
+-- when an action is closed (cause 9)
+unfoldable pub isClosed : HeadRecord → Action → Bool
+isClosed r Look = false
+-- "Closed if already sent, if h has a candidate, or after its vote close"
+isClosed r StartSent = r .started || (isNumber (r .vote .choice) || r .vote .closed)
+isClosed r (StartDelivered p) = false
+-- "Closed if not sent or already confirmed"
+isClosed r StartConfirmed = not (r .started) || r .confirmed
+-- "Closed if not confirmed or already taken"
+isClosed r VoteTurn = not (r .confirmed) || r .vote .turn
+-- "Closed if sender is h"
+isClosed r (VoteDelivered p k c x) = eqb p (r .own)
+-- "Closed if already taken"
+isClosed r VoteClose = r .vote .closed
+-- "Closed before the vote close, if already taken, or after the adjust close"
+isClosed r AdjustTurn = not (r .vote .closed) || (r .adjust .turn || r .adjust .closed)
+isClosed r (AdjustDelivered p k a x) = eqb p (r .own)
+-- "Closed before the vote close or if already taken"
+isClosed r AdjustClose = not (r .vote .closed) || r .adjust .closed
+
+-- causes 8 and 9, then the effect: "Every accepted action makes its reading the last reading".
+-- sent: the frame that is delivered, if any, was sent by its sender; one head cannot know, a sheet does
+unfoldable pub takeAction : HeadRecord → Reading → Bool → Action → Stepped
+takeAction r x sent a =
+    cond (ltb (x .0) (r .last .0)) (refused r ReadingFell)
+    (cond (not sent || isClosed r a) (refused r ActionClosed) (effect (withLast r x) a))
+
+-- the ten actions in the order of their numbers, made from the caller's numbers
+abbrev pub actionsOf : Input → List Action
+actionsOf i =
+    Look ∷ StartSent ∷ StartDelivered (i .sender) ∷ StartConfirmed ∷ VoteTurn
+    ∷ VoteDelivered (i .sender) (i .serial) (i .choice) (cond (i .none) NoReading (SomeReading (reading (i .carried))))
+    ∷ VoteClose ∷ AdjustTurn ∷ AdjustDelivered (i .sender) (i .serial) (i .choice) (reading (i .carried)) ∷ AdjustClose ∷ []
+
+unfoldable pub actionOf : Input → Action
+actionOf i = getD (actionsOf i) (i .action) Look
+
+-- cause 6 for one head: "action above 9, .. sender not below n, a must-be-zero field; .. also a candidate or adjuster
+-- not below n, a reading or adjustment of 2²⁸ or more, or a serial above 15". What is carried is "zero where unused";
+-- "Beside the mark "none" (action 5 only) the carried reading is zero"
+unfoldable pub inputFits : ℕ → Input → Bool
+inputFits n i =
+    leb (i .action) 9 && (ltb (i .sender) n && (leb (i .serial) 15 && (zeroWhereUnused (i .action) (i .sender) (i .serial)
+    && (isTime (i .reading) && (ltb (i .choice) n && (isTime (i .carried)
+    && ((hasSerial (i .action) || (eqb (i .choice) 0 && eqb (i .carried) 0))
+    && (not (i .none) || (eqb (i .action) 5 && eqb (i .carried) 0)))))))))
+
+-- "One head: 10, 6, 8, 9"
+unfoldable pub step : HeadRecord → Input → Stepped
+step r i =
+    cond (not (recordInRange r)) (refused r BadRecord)
+    (cond (not (inputFits (r .n) i)) (refused r BadEntry) (takeAction r (reading (i .reading)) true (actionOf i)))
