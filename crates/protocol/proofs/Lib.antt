@@ -1,3 +1,6 @@
 -- What is proved of the definitions.
 pub mod Tests
+pub mod Moments
+pub mod Effects
+pub mod Valid
 pub mod Marked

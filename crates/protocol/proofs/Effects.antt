@@ -1,0 +1,405 @@
+-- An action's effect in two parts: what the record keeps of it, and what the head then says. Every later fact about a
+-- step is a fact about these two, so the ten actions are gone through here and in few places else.
+-- Main results: `effect-split`, `phase-after`, `named-after`, `spoken`.
+use mathlib.Core.Path.{_≡_, refl, sym, _∙_, ap, subst}
+use mathlib.Core.Bool.{Bool, true, false, cond, not, _&&_, _||_}
+use mathlib.Core.List.{List, [], _∷_}
+use Prim.Native.Nat.{ℕ, zero, suc, _+_, _≤_, _<_}
+use native.Mathlib.Omega.{arith}
+use lib.Dec.{ltb, leb, eqb}
+use lib.ListN.{length, getD, set, length-set}
+use lib.Seq.{getD-set-same, getD-set-other}
+use borrow.Author.Tests.{eqb-true, eqb-false}
+use Rattle.protocol.specs.Types.{Reading, OptReading, NoReading, SomeReading, OptNumber, NoNumber, SomeNumber, Sender, Phase, HeadRecord, Stepped, Verdict, Accepted, Frame, NoFrame, Start, Vote, Adjust}
+use Rattle.protocol.specs.Types.{Action, Look, StartSent, StartDelivered, StartConfirmed, VoteTurn, VoteDelivered, VoteClose, AdjustTurn, AdjustDelivered, AdjustClose}
+use Rattle.protocol.specs.Record.{isNumber, reading, noSender, keptOf, startOf}
+use Rattle.protocol.specs.Median.{median}
+use Rattle.protocol.specs.Step.{choose, withStart, withVoteReading, withVoted, withAdjusted, withLast, accepted, silent, vote, adjust, mayLead, lead, voteReadings, mayAdjust, propose, isAbove, outranks, delivered, effect, isClosed}
+use Rattle.protocol.specs.Run.{isDeliveredBy, carriedReading}
+use Rattle.protocol.proofs.Tests.{absurd-bool, cases, cond-elim, not-true, not-false, and-left, and-right, or-left, or-right}
+
+-- the two phases, and what each has of a record, a sender and the actions
+pub data Kind : Type 0 where
+  votes adjusts : Kind
+
+abbrev pub phaseOf : Kind → HeadRecord → Phase
+phaseOf votes r = r .vote
+phaseOf adjusts r = r .adjust
+
+abbrev pub takenOf : Kind → Sender → OptNumber
+takenOf votes k = k .voted
+takenOf adjusts k = k .adjusted
+
+abbrev pub delivery : Kind → ℕ
+delivery votes = 5
+delivery adjusts = 8
+
+abbrev pub closing : Kind → ℕ
+closing votes = 6
+closing adjusts = 9
+
+-- an action's number, and the frame that it delivers, with its sender
+abbrev pub number : Action → ℕ
+number Look = 0
+number StartSent = 1
+number (StartDelivered p) = 2
+number StartConfirmed = 3
+number VoteTurn = 4
+number (VoteDelivered p k c x) = 5
+number VoteClose = 6
+number AdjustTurn = 7
+number (AdjustDelivered p k c x) = 8
+number AdjustClose = 9
+
+pub record Delivery : Type 0 where
+  pub sender : ℕ
+  pub frame : Frame
+
+abbrev pub noDelivery : Delivery
+noDelivery = record { sender = 0; frame = NoFrame }
+
+abbrev pub deliveryIn : Action → Delivery
+deliveryIn Look = noDelivery
+deliveryIn StartSent = noDelivery
+deliveryIn (StartDelivered p) = record { sender = p; frame = Start }
+deliveryIn StartConfirmed = noDelivery
+deliveryIn VoteTurn = noDelivery
+deliveryIn (VoteDelivered p k c x) = record { sender = p; frame = Vote k c x }
+deliveryIn VoteClose = noDelivery
+deliveryIn AdjustTurn = noDelivery
+deliveryIn (AdjustDelivered p k c x) = record { sender = p; frame = Adjust k c x }
+deliveryIn AdjustClose = noDelivery
+
+-- the action that delivers a frame, and the frame's serial
+abbrev pub deliveredBy : Frame → ℕ
+deliveredBy NoFrame = 0
+deliveredBy Start = 2
+deliveredBy (Vote j c x) = 5
+deliveredBy (Adjust j c x) = 8
+
+abbrev pub serialOf : Frame → ℕ
+serialOf NoFrame = 0
+serialOf Start = 0
+serialOf (Vote j c x) = j
+serialOf (Adjust j c x) = j
+
+-- what a frame names: the candidate or the adjuster
+abbrev pub named : Frame → OptNumber
+named NoFrame = NoNumber
+named Start = NoNumber
+named (Vote j c x) = SomeNumber c
+named (Adjust j c x) = SomeNumber c
+
+-- what it names if it is a frame of the phase under the serial
+abbrev pub namedBy : Kind → ℕ → Frame → OptNumber
+namedBy k j x = cond (isDeliveredBy (delivery k) j x) (named x) NoNumber
+
+-- one more than the last serial taken, 0 where none was
+abbrev pub taken : OptNumber → ℕ
+taken NoNumber = 0
+taken (SomeNumber j) = suc j
+
+-- FIRST PART: the record with the action's mark set and what is kept of a delivered frame
+
+abbrev pub withSenders : HeadRecord → List Sender → HeadRecord
+withSenders r l = record { n = r .n; f = r .f; own = r .own; last = r .last; started = r .started; confirmed = r .confirmed; vote = r .vote; adjust = r .adjust; adjustment = r .adjustment; senders = l }
+
+abbrev pub passedOver : Kind → HeadRecord → ℕ → ℕ → Bool
+passedOver k r p j = phaseOf k r .closed || not (isAbove j (takenOf k (keptOf r p)))
+
+-- a delivery that has no effect, and what is kept by its sender after one that has
+abbrev pub ignored : HeadRecord → ℕ → Frame → Bool
+ignored r p NoFrame = true
+ignored r p Start = r .adjust .closed
+ignored r p (Vote j c x) = passedOver votes r p j
+ignored r p (Adjust j c x) = passedOver adjusts r p j
+
+abbrev pub keptAfter : HeadRecord → ℕ → Frame → Sender
+keptAfter r p NoFrame = keptOf r p
+keptAfter r p Start = withStart (keptOf r p) (SomeReading (r .last))
+keptAfter r p (Vote j c x) = withVoted (withVoteReading (keptOf r p) x) j
+keptAfter r p (Adjust j c x) = withAdjusted (keptOf r p) j
+
+abbrev pub sendersAfter : HeadRecord → ℕ → Frame → List Sender
+sendersAfter r p x = cond (ignored r p x) (r .senders) (set (r .senders) p (keptAfter r p x))
+
+abbrev pub phaseMarked : ℕ → ℕ → ℕ → Phase → Phase
+phaseMarked turn close a p = record { turn = eqb a turn || p .turn; closed = eqb a close || p .closed; choice = p .choice; sent = p .sent }
+
+abbrev pub prepared : HeadRecord → Action → HeadRecord
+prepared r a =
+    record {
+      n = r .n;
+      f = r .f;
+      own = r .own;
+      last = r .last;
+      started = eqb (number a) 1 || r .started;
+      confirmed = eqb (number a) 3 || r .confirmed;
+      vote = phaseMarked 4 6 (number a) (r .vote);
+      adjust = phaseMarked 7 9 (number a) (r .adjust);
+      adjustment = r .adjustment;
+      senders = sendersAfter r (deliveryIn a .sender) (deliveryIn a .frame);
+    }
+
+-- SECOND PART: what the head says
+
+pub data Speech : Type 0 where
+  nothing start : Speech
+  voting : ℕ → Speech
+  adjusting : ℕ → Reading → Speech
+
+abbrev pub utter : Speech → HeadRecord → Stepped
+utter nothing m = silent m
+utter start m = accepted m Start
+utter (voting c) m = vote c m
+utter (adjusting c x) m = adjust c x m
+
+abbrev pub speechOf : HeadRecord → Action → Speech
+speechOf r Look = nothing
+speechOf r StartSent = start
+speechOf r (StartDelivered p) =
+    cond (r .adjust .closed) nothing
+    (cond (mayLead (withSenders r (set (r .senders) p (withStart (keptOf r p) (SomeReading (r .last)))))) (voting (r .own)) nothing)
+speechOf r StartConfirmed = nothing
+speechOf r VoteTurn = cond (mayLead (prepared r VoteTurn)) (voting (r .own)) nothing
+speechOf r (VoteDelivered p k c x) = cond (passedOver votes r p k) nothing (cond (outranks c (r .vote .choice)) (voting c) nothing)
+speechOf r VoteClose = nothing
+speechOf r AdjustTurn =
+    cond (mayAdjust (prepared r AdjustTurn)) (adjusting (r .own) (reading (median (voteReadings (prepared r AdjustTurn) (r .n))))) nothing
+speechOf r (AdjustDelivered p k c x) = cond (passedOver adjusts r p k) nothing (cond (outranks c (r .adjust .choice)) (adjusting c x) nothing)
+speechOf r AdjustClose = nothing
+
+split-if : (o : Bool) (m : HeadRecord) (x : Speech) → cond o (utter x m) (silent m) ≡ utter (cond o x nothing) m
+split-if true m x = refl
+split-if false m x = refl
+
+split-delivery : (b o : Bool) (r : HeadRecord) (l : List Sender) (x : Speech)
+    → cond b (silent r) (cond o (utter x (withSenders r l)) (silent (withSenders r l)))
+    ≡ utter (cond b nothing (cond o x nothing)) (withSenders r (cond b (r .senders) l))
+split-delivery true o r l x = refl
+split-delivery false o r l x = split-if o (withSenders r l) x
+
+pub effect-split : (r : HeadRecord) (a : Action) → effect r a ≡ utter (speechOf r a) (prepared r a)
+unfolding effect lead propose delivered
+effect-split r Look = refl
+effect-split r StartSent = refl
+effect-split r (StartDelivered p) = split-delivery (r .adjust .closed) (mayLead _) r (set (r .senders) p (withStart (keptOf r p) (SomeReading (r .last)))) (voting (r .own))
+effect-split r StartConfirmed = refl
+effect-split r VoteTurn = split-if (mayLead (prepared r VoteTurn)) (prepared r VoteTurn) (voting (r .own))
+effect-split r (VoteDelivered p k c x) = split-delivery (passedOver votes r p k) (outranks c (r .vote .choice)) r _ (voting c)
+effect-split r VoteClose = refl
+effect-split r AdjustTurn = split-if (mayAdjust (prepared r AdjustTurn)) (prepared r AdjustTurn) (adjusting (r .own) _)
+effect-split r (AdjustDelivered p k c x) = split-delivery (passedOver adjusts r p k) (outranks c (r .adjust .choice)) r _ (adjusting c x)
+effect-split r AdjustClose = refl
+
+-- whom a speech of the phase names
+abbrev pub said : Kind → Speech → OptNumber
+said votes nothing = NoNumber
+said votes start = NoNumber
+said votes (voting c) = SomeNumber c
+said votes (adjusting c x) = NoNumber
+said adjusts nothing = NoNumber
+said adjusts start = NoNumber
+said adjusts (voting c) = NoNumber
+said adjusts (adjusting c x) = SomeNumber c
+
+-- a phase after a speech: unchanged, or with the choice named and one more frame sent
+abbrev pub chosenBy : OptNumber → Phase → Phase
+chosenBy NoNumber p = p
+chosenBy (SomeNumber c) p = choose c p
+
+pub phase-after : (k : Kind) (x : Speech) (m : HeadRecord) → phaseOf k (utter x m .after) ≡ chosenBy (said k x) (phaseOf k m)
+unfolding vote adjust
+phase-after votes nothing m = refl
+phase-after votes start m = refl
+phase-after votes (voting c) m = refl
+phase-after votes (adjusting c x) m = refl
+phase-after adjusts nothing m = refl
+phase-after adjusts start m = refl
+phase-after adjusts (voting c) m = refl
+phase-after adjusts (adjusting c x) m = refl
+
+-- the frame of a speech: of the phase, its serial is the number sent before, and it names the choice
+abbrev pub saidUnder : OptNumber → ℕ → ℕ → OptNumber
+saidUnder NoNumber i j = NoNumber
+saidUnder (SomeNumber c) i j = cond (eqb i j) (SomeNumber c) NoNumber
+
+pub named-after : (k : Kind) (x : Speech) (m : HeadRecord) (j : ℕ) → namedBy k j (utter x m .frame) ≡ saidUnder (said k x) (phaseOf k m .sent) j
+unfolding vote adjust
+named-after votes nothing m j = refl
+named-after votes start m j = refl
+named-after votes (voting c) m j = refl
+named-after votes (adjusting c x) m j = refl
+named-after adjusts nothing m j = refl
+named-after adjusts start m j = refl
+named-after adjusts (voting c) m j = refl
+named-after adjusts (adjusting c x) m j = refl
+
+-- why a head speaks: it has no choice and its turn is taken, or it is delivered a frame that outranks its choice
+pub data Why (k : Kind) (r : HeadRecord) (a : Action) (c : ℕ) : Type 0 where
+  itself : c ≡ r .own → phaseOf k r .choice ≡ NoNumber → phaseOf k (prepared r a) .turn ≡ true → Why k r a c
+  told : number a ≡ delivery k → named (deliveryIn a .frame) ≡ SomeNumber c → Why k r a c
+
+pub record Speaks (k : Kind) (r : HeadRecord) (a : Action) (c : ℕ) : Type 0 where
+  pub is-open : phaseOf k r .closed ≡ false
+  pub higher : outranks c (phaseOf k r .choice) ≡ true
+  pub why : Why k r a c
+
+-- where an adjustment comes from: computed at the head's own turn, or carried by the frame that it passes on
+pub data Source (a : Action) (x : Reading) : Type 0 where
+  computed : number a ≡ 7 → Source a x
+  passed-on : number a ≡ 8 → carriedReading (deliveryIn a .frame) ≡ SomeReading x → Source a x
+
+pub data Spoken (r : HeadRecord) (a : Action) : Speech → Type 0 where
+  says-nothing : Spoken r a nothing
+  says-start : number a ≡ 1 → Spoken r a start
+  says-vote : {c : ℕ} → Speaks votes r a c → Spoken r a (voting c)
+  says-adjust : {c : ℕ} {x : Reading} → Speaks adjusts r a c → Source a x → Spoken r a (adjusting c x)
+
+pub no-number : (m : OptNumber) → isNumber m ≡ false → m ≡ NoNumber
+no-number NoNumber e = refl
+no-number (SomeNumber v) e = absurd-bool refl e
+
+-- the rule after 2 and 4, at the record that the action prepared
+spoken-lead : (r m : HeadRecord) (a : Action) → m .vote .closed ≡ r .vote .closed → m .vote .choice ≡ r .vote .choice → m .vote .turn ≡ prepared r a .vote .turn
+    → Spoken r a (cond (mayLead m) (voting (r .own)) nothing)
+unfolding mayLead
+spoken-lead r m a cl ch tu =
+    cond-elim (Spoken r a) (mayLead m)
+    (λ t. let t2 = and-right (m .vote .turn) _ t in
+    let t3 = and-right (not (m .vote .closed)) _ t2 in
+    let none : r .vote .choice ≡ NoNumber = sym ch ∙ no-number _ (not-true (and-left (not (isNumber (m .vote .choice))) _ t3)) in
+    says-vote (record {
+      is-open = sym cl ∙ not-true (and-left (not (m .vote .closed)) _ t2);
+      higher = rw none refl;
+      why = itself refl none (sym tu ∙ and-left (m .vote .turn) _ t);
+    }))
+    (λ _. says-nothing)
+
+-- a delivered frame, passed over or taken
+spoken-delivery : (k : Kind) (r : HeadRecord) (a : Action) (p j c : ℕ) (x : Speech) → number a ≡ delivery k → named (deliveryIn a .frame) ≡ SomeNumber c
+    → (Speaks k r a c → Spoken r a x) → Spoken r a (cond (passedOver k r p j) nothing (cond (outranks c (phaseOf k r .choice)) x nothing))
+spoken-delivery k r a p j c x nu na say =
+    cond-elim (Spoken r a) (passedOver k r p j) (λ _. says-nothing)
+    (λ t. cond-elim (Spoken r a) (outranks c (phaseOf k r .choice))
+    (λ u. say (record { is-open = or-left (phaseOf k r .closed) _ t; higher = u; why = told nu na })) (λ _. says-nothing))
+
+pub spoken : (r : HeadRecord) (a : Action) → isClosed r a ≡ false → Spoken r a (speechOf r a)
+unfolding isClosed mayAdjust
+spoken r Look e = says-nothing
+spoken r StartSent e = says-start refl
+spoken r (StartDelivered p) e =
+    cond-elim (Spoken r (StartDelivered p)) (r .adjust .closed) (λ _. says-nothing)
+    (λ _. spoken-lead r (withSenders r (set (r .senders) p (withStart (keptOf r p) (SomeReading (r .last))))) (StartDelivered p) refl refl refl)
+spoken r StartConfirmed e = says-nothing
+spoken r VoteTurn e = spoken-lead r (prepared r VoteTurn) VoteTurn refl refl refl
+spoken r (VoteDelivered p k c x) e = spoken-delivery votes r (VoteDelivered p k c x) p k c (voting c) refl refl says-vote
+spoken r VoteClose e = says-nothing
+spoken r AdjustTurn e =
+    cond-elim (Spoken r AdjustTurn) (mayAdjust (prepared r AdjustTurn))
+    (λ t. let none : r .adjust .choice ≡ NoNumber = no-number _ (not-true (and-left (not (isNumber (r .adjust .choice))) _ (and-right (isNumber (r .vote .choice)) _ t))) in
+    says-adjust (record { is-open = or-right (r .adjust .turn) _ (or-right (not (r .vote .closed)) _ e); higher = rw none refl; why = itself refl none refl }) (computed refl))
+    (λ _. says-nothing)
+spoken r (AdjustDelivered p k c x) e = spoken-delivery adjusts r (AdjustDelivered p k c x) p k c (adjusting c x) refl refl (λ y. says-adjust y (passed-on refl refl))
+spoken r AdjustClose e = says-nothing
+
+pub none-is-some {ℓ} : {A : Type ℓ} {c : ℕ} → NoNumber ≡ SomeNumber c → A
+none-is-some e = absurd (let z : _≡_ {A = ℕ} 0 1 = cc in omega arith)
+
+pub same-number : {c v : ℕ} → SomeNumber c ≡ SomeNumber v → c ≡ v
+same-number e = cc
+
+-- who speaks in a phase has a reason
+pub speaks : (k : Kind) {r : HeadRecord} {a : Action} {x : Speech} {c : ℕ} → Spoken r a x → said k x ≡ SomeNumber c → Speaks k r a c
+speaks votes says-nothing e = none-is-some e
+speaks votes (says-start s) e = none-is-some e
+speaks votes {r} {a} (says-vote s) e = subst (Speaks votes r a) (same-number e) s
+speaks votes (says-adjust s t) e = none-is-some e
+speaks adjusts says-nothing e = none-is-some e
+speaks adjusts (says-start s) e = none-is-some e
+speaks adjusts (says-vote s) e = none-is-some e
+speaks adjusts {r} {a} (says-adjust s t) e = subst (Speaks adjusts r a) (same-number e) s
+
+-- WHAT A RECORD KEEPS
+
+-- a part of the element that is written, if it is the part that stood there, is so everywhere
+pub set-keeps : {X : Type 0} (g : Sender → X) (l : List Sender) (p q : ℕ) (k : Sender) → g k ≡ g (getD l p noSender)
+    → g (getD (set l p k) q noSender) ≡ g (getD l q noSender)
+set-keeps g [] p q k e = refl
+set-keeps g (x ∷ l) zero zero k e = e
+set-keeps g (x ∷ l) zero (suc q) k e = refl
+set-keeps g (x ∷ l) (suc p) zero k e = refl
+set-keeps g (x ∷ l) (suc p) (suc q) k e = set-keeps g l p q k e
+
+-- a speech changes no start reading and no serial taken: nothing of a sender but the head's own vote reading
+pub utter-keeps : {X : Type 0} (g : Sender → X) → ((k : Sender) (x : OptReading) → g (withVoteReading k x) ≡ g k)
+    → (x : Speech) (m : HeadRecord) (q : ℕ) → g (keptOf (utter x m .after) q) ≡ g (keptOf m q)
+unfolding vote adjust
+utter-keeps g e nothing m q = refl
+utter-keeps g e start m q = refl
+utter-keeps g e (voting c) m q = set-keeps g (m .senders) (m .own) q _ (e _ _)
+utter-keeps g e (adjusting c x) m q = refl
+
+-- number of heads, own number, last reading, and the marks, in the order of the actions that set them
+abbrev pub marksOf : HeadRecord → List Bool
+marksOf r = r .started ∷ r .confirmed ∷ r .vote .turn ∷ r .vote .closed ∷ r .adjust .turn ∷ r .adjust .closed ∷ []
+
+pub record Same (r m : HeadRecord) : Type 0 where
+  pub n : m .n ≡ r .n
+  pub f : m .f ≡ r .f
+  pub own : m .own ≡ r .own
+  pub last : m .last ≡ r .last
+  pub size : length (m .senders) ≡ length (r .senders)
+
+pub utter-same : (x : Speech) (m : HeadRecord) → Same m (utter x m .after)
+unfolding vote adjust
+utter-same nothing m = record { n = refl; f = refl; own = refl; last = refl; size = refl }
+utter-same start m = record { n = refl; f = refl; own = refl; last = refl; size = refl }
+utter-same (voting c) m = record { n = refl; f = refl; own = refl; last = refl; size = length-set (m .senders) (m .own) _ }
+utter-same (adjusting c x) m = record { n = refl; f = refl; own = refl; last = refl; size = refl }
+
+pub utter-marks : (x : Speech) (m : HeadRecord) → marksOf (utter x m .after) ≡ marksOf m
+unfolding vote adjust
+utter-marks nothing m = refl
+utter-marks start m = refl
+utter-marks (voting c) m = refl
+utter-marks (adjusting c x) m = refl
+
+size-if : (b : Bool) (l : List Sender) (p : ℕ) (k : Sender) → length (cond b l (set l p k)) ≡ length l
+size-if true l p k = refl
+size-if false l p k = length-set l p k
+
+pub prepared-same : (r : HeadRecord) (a : Action) → Same r (prepared r a)
+prepared-same r a = record { n = refl; f = refl; own = refl; last = refl; size = size-if (ignored r (deliveryIn a .sender) (deliveryIn a .frame)) (r .senders) (deliveryIn a .sender) (keptAfter r (deliveryIn a .sender) (deliveryIn a .frame)) }
+
+-- what is kept by sender v after a delivery from p
+pub kept-after : (r : HeadRecord) (p : ℕ) (x : Frame) (v : ℕ) → p < length (r .senders)
+    → getD (sendersAfter r p x) v noSender ≡ cond (not (ignored r p x) && eqb p v) (keptAfter r p x) (keptOf r v)
+kept-after r p x v b = go (ignored r p x) (eqb p v) refl
+  where
+    go : (i d : Bool) → eqb p v ≡ d → getD (cond i (r .senders) (set (r .senders) p (keptAfter r p x))) v noSender ≡ cond (not i && d) (keptAfter r p x) (keptOf r v)
+    go true true t = refl
+    go true false t = refl
+    go false true t = subst (λ (w : ℕ). getD (set (r .senders) p (keptAfter r p x)) w noSender ≡ keptAfter r p x) (eqb-true p v t) (getD-set-same (r .senders) p _ noSender b)
+    go false false t = getD-set-other (r .senders) p v _ noSender (λ d. eqb-false p v t (sym d))
+
+pub utter-accepted : (x : Speech) (m : HeadRecord) → utter x m .verdict ≡ Accepted
+unfolding vote adjust
+utter-accepted nothing m = refl
+utter-accepted start m = refl
+utter-accepted (voting c) m = refl
+utter-accepted (adjusting c x) m = refl
+
+-- whether an action is closed does not depend on the last reading
+pub closed-last : (r : HeadRecord) (x : Reading) (a : Action) → isClosed (withLast r x) a ≡ isClosed r a
+unfolding isClosed
+closed-last r x Look = refl
+closed-last r x StartSent = refl
+closed-last r x (StartDelivered p) = refl
+closed-last r x StartConfirmed = refl
+closed-last r x VoteTurn = refl
+closed-last r x (VoteDelivered p k c y) = refl
+closed-last r x VoteClose = refl
+closed-last r x AdjustTurn = refl
+closed-last r x (AdjustDelivered p k c y) = refl
+closed-last r x AdjustClose = refl
