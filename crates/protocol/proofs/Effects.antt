@@ -219,6 +219,23 @@ phase-after adjusts start m = refl
 phase-after adjusts (voting c) m = refl
 phase-after adjusts (adjusting c x) m = refl
 
+-- preparing changes no choice and no count, and the last reading is no part of a phase
+pub prepared-choice : (k : Kind) (r : HeadRecord) (a : Action) → phaseOf k (prepared r a) .choice ≡ phaseOf k r .choice
+prepared-choice votes r a = refl
+prepared-choice adjusts r a = refl
+
+pub prepared-sent : (k : Kind) (r : HeadRecord) (a : Action) → phaseOf k (prepared r a) .sent ≡ phaseOf k r .sent
+prepared-sent votes r a = refl
+prepared-sent adjusts r a = refl
+
+pub phase-last : (k : Kind) (r : HeadRecord) (x : Reading) → phaseOf k (withLast r x) ≡ phaseOf k r
+phase-last votes r x = refl
+phase-last adjusts r x = refl
+
+pub chosen-turn : (m : OptNumber) (p : Phase) → chosenBy m p .turn ≡ p .turn
+chosen-turn NoNumber p = refl
+chosen-turn (SomeNumber c) p = refl
+
 -- the frame of a speech: of the phase, its serial is the number sent before, and it names the choice
 abbrev pub saidUnder : OptNumber → ℕ → ℕ → OptNumber
 saidUnder NoNumber i j = NoNumber
@@ -383,12 +400,16 @@ kept-after r p x v b = go (ignored r p x) (eqb p v) refl
     go false true t = subst (λ (w : ℕ). getD (set (r .senders) p (keptAfter r p x)) w noSender ≡ keptAfter r p x) (eqb-true p v t) (getD-set-same (r .senders) p _ noSender b)
     go false false t = getD-set-other (r .senders) p v _ noSender (λ d. eqb-false p v t (sym d))
 
-pub utter-accepted : (x : Speech) (m : HeadRecord) → utter x m .verdict ≡ Accepted
+-- an effect is an accepted answer
+utter-accepted : (x : Speech) (m : HeadRecord) → accepted (utter x m .after) (utter x m .frame) ≡ utter x m
 unfolding vote adjust
 utter-accepted nothing m = refl
 utter-accepted start m = refl
 utter-accepted (voting c) m = refl
 utter-accepted (adjusting c x) m = refl
+
+pub effect-accepted : (r : HeadRecord) (a : Action) → accepted (effect r a .after) (effect r a .frame) ≡ effect r a
+effect-accepted r a = rw (effect-split r a) (utter-accepted (speechOf r a) (prepared r a))
 
 -- whether an action is closed does not depend on the last reading
 pub closed-last : (r : HeadRecord) (x : Reading) (a : Action) → isClosed (withLast r x) a ≡ isClosed r a
@@ -403,3 +424,48 @@ closed-last r x VoteClose = refl
 closed-last r x AdjustTurn = refl
 closed-last r x (AdjustDelivered p k c y) = refl
 closed-last r x AdjustClose = refl
+
+-- WHAT IS TAKEN OF A DELIVERED FRAME
+
+-- the serial last taken from the sender, after a frame that is not ignored
+pub taken-after : (k : Kind) (r : HeadRecord) (p : ℕ) (x : Frame)
+    → takenOf k (keptAfter r p x) ≡ cond (eqb (deliveredBy x) (delivery k)) (SomeNumber (serialOf x)) (takenOf k (keptOf r p))
+taken-after votes r p NoFrame = refl
+taken-after votes r p Start = refl
+taken-after votes r p (Vote j c x) = refl
+taken-after votes r p (Adjust j c x) = refl
+taken-after adjusts r p NoFrame = refl
+taken-after adjusts r p Start = refl
+taken-after adjusts r p (Vote j c x) = refl
+taken-after adjusts r p (Adjust j c x) = refl
+
+pub ignored-frame : (k : Kind) (r : HeadRecord) (p : ℕ) (x : Frame) → eqb (deliveredBy x) (delivery k) ≡ true → ignored r p x ≡ passedOver k r p (serialOf x)
+ignored-frame votes r p NoFrame e = absurd-bool e refl
+ignored-frame votes r p Start e = absurd-bool e refl
+ignored-frame votes r p (Vote j c x) e = refl
+ignored-frame votes r p (Adjust j c x) e = absurd-bool e refl
+ignored-frame adjusts r p NoFrame e = absurd-bool e refl
+ignored-frame adjusts r p Start e = absurd-bool e refl
+ignored-frame adjusts r p (Vote j c x) e = absurd-bool e refl
+ignored-frame adjusts r p (Adjust j c x) e = refl
+
+-- a frame that is not passed over and names a higher rank is spoken for
+says-if : (k : Kind) (b o : Bool) (x : Speech) → b ≡ false → o ≡ true → said k (cond b nothing (cond o x nothing)) ≡ said k x
+says-if k b o x t u = rw (t, u) refl
+
+pub heard-speech : (k : Kind) (r : HeadRecord) (a : Action) (c : ℕ) → number a ≡ delivery k → named (deliveryIn a .frame) ≡ SomeNumber c
+    → passedOver k r (deliveryIn a .sender) (serialOf (deliveryIn a .frame)) ≡ false → outranks c (phaseOf k r .choice) ≡ true → said k (speechOf r a) ≡ SomeNumber c
+heard-speech k r Look c nu na t u = none-is-some na
+heard-speech k r StartSent c nu na t u = none-is-some na
+heard-speech k r (StartDelivered p) c nu na t u = none-is-some na
+heard-speech k r StartConfirmed c nu na t u = none-is-some na
+heard-speech k r VoteTurn c nu na t u = none-is-some na
+heard-speech votes r (VoteDelivered p j w x) c nu na t u =
+    says-if votes (passedOver votes r p j) (outranks w (r .vote .choice)) (voting w) t (rw (same-number na) u) ∙ na
+heard-speech adjusts r (VoteDelivered p j w x) c nu na t u = absurd (omega arith)
+heard-speech k r VoteClose c nu na t u = none-is-some na
+heard-speech k r AdjustTurn c nu na t u = none-is-some na
+heard-speech votes r (AdjustDelivered p j w x) c nu na t u = absurd (omega arith)
+heard-speech adjusts r (AdjustDelivered p j w x) c nu na t u =
+    says-if adjusts (passedOver adjusts r p j) (outranks w (r .adjust .choice)) (adjusting w x) t (rw (same-number na) u) ∙ na
+heard-speech k r AdjustClose c nu na t u = none-is-some na

@@ -3,4 +3,5 @@ pub mod Tests
 pub mod Moments
 pub mod Effects
 pub mod Valid
+pub mod Phases
 pub mod Marked
