@@ -4,4 +4,5 @@ pub mod Moments
 pub mod Effects
 pub mod Valid
 pub mod Phases
+pub mod Starts
 pub mod Marked

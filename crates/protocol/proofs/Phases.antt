@@ -22,7 +22,7 @@ use Rattle.protocol.specs.Premises as Premises
 use Rattle.protocol.proofs.Tests.{absurd-bool, cases, cond-elim, and-left, and-right, and-both, or-first, or-left, or-right, or-cases, not-true, not-false, eqb-same}
 use Rattle.protocol.proofs.Moments.{Earlier, now, later, any-grows, find}
 use Rattle.protocol.proofs.Effects.{Kind, votes, adjusts, phaseOf, takenOf, delivery, closing, number, deliveryIn, deliveredBy, serialOf, named, namedBy, taken, passedOver, ignored, keptAfter, Delivery, prepared, Speech, utter, speechOf, said, chosenBy, saidUnder, prepared-choice, prepared-sent, phase-last, chosen-turn, phase-after, named-after, Spoken, spoken, Speaks, speaks, Why, itself, told, utter-keeps, kept-after, none-is-some, same-number, closed-last, taken-after, ignored-frame, heard-speech}
-use Rattle.protocol.proofs.Valid.{baseOf, Taken, Valid, start, more, frame-fits, record-at, record-other, by-head, of-effect, fixed, closed-took}
+use Rattle.protocol.proofs.Valid.{baseOf, Taken, Valid, start, more, frame-fits, record-at, record-other, by-head, of-effect, fixed, keptNext, kept-at, closed-took}
 
 -- the first of two that is there
 abbrev pub orNumber : OptNumber → OptNumber → OptNumber
@@ -123,13 +123,13 @@ module _ (g : Setting) (k : Kind) where
       named-or k j (frameSent s (delivery k) p j) _ (frame-fits s (delivery k) p j)
       ∙ ap (λ (m : OptNumber). orNumber (names s p j) m) (named-if (eqb (e .entry .head) p) (isDeliveredBy (delivery k) j (e .frame)) (e .frame))
 
-  names-other : (e : Event) (s : History) (p j : ℕ) → eqb (e .entry .head) p ≡ false → names (e ∷ s) p j ≡ names s p j
+  pub names-other : (e : Event) (s : History) (p j : ℕ) → eqb (e .entry .head) p ≡ false → names (e ∷ s) p j ≡ names s p j
   names-other e s p j d = names-step e s p j ∙ rw d (or-none (names s p j))
 
-  held-other : (e : Event) (s : History) (q : ℕ) → eqb (e .entry .head) q ≡ false → held (e ∷ s) q ≡ held s q
+  pub held-other : (e : Event) (s : History) (q : ℕ) → eqb (e .entry .head) q ≡ false → held (e ∷ s) q ≡ held s q
   held-other e s q d = ap (λ (r : HeadRecord). phaseOf k r .choice) (record-other g e s q d)
 
-  sent-other : (e : Event) (s : History) (q : ℕ) → eqb (e .entry .head) q ≡ false → sent (e ∷ s) q ≡ sent s q
+  pub sent-other : (e : Event) (s : History) (q : ℕ) → eqb (e .entry .head) q ≡ false → sent (e ∷ s) q ≡ sent s q
   sent-other e s q d = ap (λ (r : HeadRecord). phaseOf k r .sent) (record-other g e s q d)
 
   -- whom a head speaks for: itself, if it has no choice, or one whom the frame that it is delivered names
@@ -230,19 +230,9 @@ module _ (g : Setting) (k : Kind) where
     passed : PassedOver s e p → Hearing s e p
     took : TookFrame s e p → Hearing s e p
 
-  -- what is kept by p after an event
-  abbrev keptNext : (s : History) (e : Event) (p : ℕ) → Sender
-  keptNext s e p =
-      cond (not (ignored (baseOf g s e) (e .entry .sender) (frameOf s (e .entry))) && eqb (e .entry .sender) p)
-      (keptAfter (baseOf g s e) (e .entry .sender) (frameOf s (e .entry))) (keptOf (recordOf g s (e .entry .head)) p)
-
   taken-at : {s : History} {e : Event} (t : Taken g s e) → Valid g s → g .n ≤ 16 → (p : ℕ)
-      → takenOf k (keptOf (recordOf g (e ∷ s) (e .entry .head)) p) ≡ takenOf k (keptNext s e p)
-  taken-at {s} {e} t v small p =
-      let fits : e .entry .sender < length (recordOf g s (e .entry .head) .senders) = rw (fixed g v (e .entry .head) .size-is) (let z = t .sender-below in omega arith) in
-      rw (record-at g e s) (of-effect g (λ y. takenOf k (keptOf (y .after) p) ≡ takenOf k (keptNext s e p)) t
-      (utter-keeps (takenOf k) (keeps k) (speechAt t) (preparedAt t) p
-      ∙ rw (t .asked .delivery-is) (ap (takenOf k) (kept-after (baseOf g s e) (e .entry .sender) (frameOf s (e .entry)) p fits))))
+      → takenOf k (keptOf (recordOf g (e ∷ s) (e .entry .head)) p) ≡ takenOf k (keptNext g s e p)
+  taken-at t v small p = kept-at g (takenOf k) (keeps k) t v small p
     where
       keeps : (k : Kind) (z : Sender) (y : OptReading) → takenOf k (withVoteReading z y) ≡ takenOf k z
       keeps votes z y = refl
@@ -319,7 +309,7 @@ module _ (g : Setting) (k : Kind) where
       x : Frame
       x = frameOf s (e .entry)
 
-      at : takenOf k (keptOf (recordOf g (e ∷ s) (e .entry .head)) p) ≡ takenOf k (keptNext s e p)
+      at : takenOf k (keptOf (recordOf g (e ∷ s) (e .entry .head)) p) ≡ takenOf k (keptNext g s e p)
       at = taken-at t v small p
 
       untaken : (not (ignored r (e .entry .sender) x) && eqb (e .entry .sender) p) ≡ false → lastTaken (e ∷ s) (e .entry .head) p ≡ lastTaken s (e .entry .head) p
@@ -356,7 +346,7 @@ module _ (g : Setting) (k : Kind) where
   or-names (SomeNumber w) b c h d = absurd (d h)
 
   -- a property of every frame of p holds of those sent before, and of the one that p sends now
-  frame-new : {s : History} {e : Event} (P : ℕ → ℕ → Type 0) → Turn s e → ((j c : ℕ) → names s (e .entry .head) j ≡ SomeNumber c → P j c)
+  pub frame-new : {s : History} {e : Event} (P : ℕ → ℕ → Type 0) → Turn s e → ((j c : ℕ) → names s (e .entry .head) j ≡ SomeNumber c → P j c)
       → ((z : Spoke s e) → P (sent s (e .entry .head)) (z .choice)) → (j c : ℕ) → names (e ∷ s) (e .entry .head) j ≡ SomeNumber c → P j c
   frame-new {s} {e} P (quiet z) old new j c h = old j c (sym (z .names-same j) ∙ h)
   frame-new {s} {e} P (spoke z) old new j c h = go (names s (e .entry .head) j) refl (eqb (sent s (e .entry .head)) j) refl (sym (z .names-new j) ∙ h)

@@ -11,17 +11,17 @@ use lib.Dec.{ltb, leb, eqb}
 use lib.ListN.{length, getD}
 use borrow.Author.Tests.{eqb-true, eqb-false, ltb-true, ltb-false, leb-true}
 use Rattle.protocol.specs.Base.{any}
-use Rattle.protocol.specs.Types.{Reading, OptReading, NoReading, SomeReading, HeadRecord, Setting, Entry, Input, Cause, TooManyWords, BadLength, BadFirstWord, BadEntry, TimeFell, ReadingFell, ActionClosed, Verdict, Accepted, Refused, Stepped, Frame, NoFrame, Start, Vote, Adjust}
+use Rattle.protocol.specs.Types.{Reading, OptReading, NoReading, SomeReading, Sender, HeadRecord, Setting, Entry, Input, Cause, TooManyWords, BadLength, BadFirstWord, BadEntry, TimeFell, ReadingFell, ActionClosed, Verdict, Accepted, Refused, Stepped, Frame, NoFrame, Start, Vote, Adjust}
 use Rattle.protocol.specs.Types.{Action, Look, StartSent, StartDelivered, StartConfirmed, VoteTurn, VoteDelivered, VoteClose, AdjustTurn, AdjustDelivered, AdjustClose}
 use Rattle.protocol.specs.Words.{bits, hasSender, hasSerial, zeroWhereUnused, headsFit, settingOf, firstWordFits, secondWordFits, entryOf, entryFits, settingAt, entryCount, placeOf, entryAt, entryFitsAt}
-use Rattle.protocol.specs.Record.{fresh, reading, readingOr0, isReading}
-use Rattle.protocol.specs.Step.{withLast, accepted, refused, effect, isClosed, takeAction, actionOf}
+use Rattle.protocol.specs.Record.{keptOf, fresh, reading, readingOr0, isReading}
+use Rattle.protocol.specs.Step.{withVoteReading, withLast, accepted, refused, effect, isClosed, takeAction, actionOf}
 use Rattle.protocol.specs.Causes.{sheetVerdict}
 use Rattle.protocol.specs.Run.{Event, History, recordOf, isDeliveredBy, orElse, frameSent, frameOf, isFrame, carriedChoice, carriedReading, inputOf, lastTime, stepEntry, Run, stopped, ran, extend, andThen, runOf, afterVerdict, runSheet}
 use Rattle.protocol.specs.Premises.{takes, took}
 use Rattle.protocol.proofs.Tests.{absurd-bool, cases, cond-elim, and-left, and-right, and-both, or-left, or-right, not-true, not-false, eqb-same}
 use Rattle.protocol.proofs.Moments.{Earlier, now, later}
-use Rattle.protocol.proofs.Effects.{Kind, votes, adjusts, phaseOf, closing, number, Delivery, deliveryIn, deliveredBy, serialOf, utter, speechOf, prepared, effect-split, effect-accepted, marksOf, utter-marks, utter-same, prepared-same}
+use Rattle.protocol.proofs.Effects.{Kind, votes, adjusts, phaseOf, closing, number, Delivery, deliveryIn, deliveredBy, serialOf, utter, speechOf, prepared, effect-split, effect-accepted, marksOf, utter-marks, utter-same, utter-keeps, prepared-same, ignored, keptAfter, kept-after}
 
 -- the record that the event's step worked on: its head's, with the reading already kept
 abbrev pub baseOf : Setting → History → Event → HeadRecord
@@ -351,3 +351,18 @@ module _ (g : Setting) where
   unfolding fresh
   closed-took votes = mark-took (λ l. getD l 3 false) 6 refl (λ r i. refl)
   closed-took adjusts = mark-took (λ l. getD l 5 false) 9 refl (λ r i. refl)
+
+  -- what is kept by sender p at the head of an event, before the head speaks
+  abbrev pub keptNext : (s : History) (e : Event) (p : ℕ) → Sender
+  keptNext s e p =
+      cond (not (ignored (baseOf g s e) (e .entry .sender) (frameOf s (e .entry))) && eqb (e .entry .sender) p)
+      (keptAfter (baseOf g s e) (e .entry .sender) (frameOf s (e .entry))) (keptOf (recordOf g s (e .entry .head)) p)
+
+  -- of what is kept, all but the head's own vote reading is so after the event
+  pub kept-at : {X : Type 0} (part : Sender → X) → ((k : Sender) (x : OptReading) → part (withVoteReading k x) ≡ part k)
+      → {s : History} {e : Event} (t : Taken g s e) → Valid g s → g .n ≤ 16 → (p : ℕ) → part (keptOf (recordOf g (e ∷ s) (e .entry .head)) p) ≡ part (keptNext s e p)
+  kept-at part keeps {s} {e} t v small p =
+      let fits : e .entry .sender < length (recordOf g s (e .entry .head) .senders) = rw (fixed v (e .entry .head) .size-is) (let z = t .sender-below in omega arith) in
+      rw (record-at g e s) (of-effect (λ y. part (keptOf (y .after) p) ≡ part (keptNext s e p)) t
+      (utter-keeps part keeps (speechOf (baseOf g s e) (t .action)) (prepared (baseOf g s e) (t .action)) p
+      ∙ rw (t .asked .delivery-is) (ap part (kept-after (baseOf g s e) (e .entry .sender) (frameOf s (e .entry)) p fits))))
