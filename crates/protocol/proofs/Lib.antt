@@ -5,4 +5,5 @@ pub mod Effects
 pub mod Valid
 pub mod Phases
 pub mod Starts
+pub mod Rounds
 pub mod Marked

@@ -175,7 +175,7 @@ module _ (g : Setting) (small : g .n ≤ 16) where
   waits = invariant g (λ q r. Waiting r) (λ q a. absurd-bool a refl) (λ s e t v w. waiting-effect (baseOf g s e) (t .action) w)
 
   -- (d) WHOEVER IS VOTED FOR HAS CONFIRMED ITS START
-  module _ (turn-confirmed : (s : History) → Valid g s → (q : ℕ) → recordOf g s q .vote .turn ≡ true → recordOf g s q .confirmed ≡ true) where
+  module _ (turn-confirmed : (s : History) → Valid g s → (q : ℕ) → q < g .n → recordOf g s q .vote .turn ≡ true → recordOf g s q .confirmed ≡ true) where
     pub frame-confirmed : {s : History} → Valid g s → (p j c : ℕ) → names g votes s p j ≡ SomeNumber c → took 3 c s ≡ true
     unfolding frameSent
     frame-confirmed start p j c = none-is-some
@@ -187,7 +187,7 @@ module _ (g : Setting) (small : g .n ≤ 16) where
       where
         new : (c : ℕ) → Origin g votes s e c → ((p j c : ℕ) → names g votes s p j ≡ SomeNumber c → took 3 c s ≡ true) → took 3 c (e ∷ s) ≡ true
         new c (own is none tu) ih =
-            subst (λ (q : ℕ). took 3 q (e ∷ s) ≡ true) (sym is) (sym (confirmed-took g (more t v) (e .entry .head)) ∙ turn-confirmed (e ∷ s) (more t v) (e .entry .head) tu)
+            subst (λ (q : ℕ). took 3 q (e ∷ s) ≡ true) (sym is) (sym (confirmed-took g (more t v) (e .entry .head)) ∙ turn-confirmed (e ∷ s) (more t v) (e .entry .head) (t .head-below) tu)
         new c (heard a n) ih = or-second (takes 3 c e) _ (ih _ _ c n)
 
     pub candidate-confirmed : {s : History} → Valid g s → (q c : ℕ) → held g votes s q ≡ SomeNumber c → took 3 c s ≡ true

@@ -1,0 +1,229 @@
+-- A round: an accepted sheet that keeps all eight premises. What the premises say at the first correct close of a phase,
+-- and that nothing changes a correct head's choice from then on. All of it is said once, over the phase.
+-- Main results: `first-close`, `reaches`, `same-choice`, `choice-stays`.
+use mathlib.Core.Path.{_≡_, refl, sym, _∙_, ap, subst}
+use mathlib.Core.Bool.{Bool, true, false, cond, not, _&&_, _||_}
+use mathlib.Core.List.{List, [], _∷_}
+use Prim.Native.Nat.{ℕ, zero, suc, _+_, _-_, _≤_, _<_}
+use native.Mathlib.Omega.{arith}
+use lib.Dec.{ltb, leb, eqb}
+use borrow.Author.Tests.{eqb-true, eqb-false, eq-eqb, ne-eqb, leb-true}
+use Rattle.protocol.specs.Base.{_⇒_, any, all, allBelow, countBelow}
+use Rattle.protocol.specs.Types.{OptNumber, NoNumber, SomeNumber, HeadRecord, Setting, Judged, Kept, Broken}
+use Rattle.protocol.specs.Words.{isCorrect}
+use Rattle.protocol.specs.Run.{Event, History, recordOf}
+use Rattle.protocol.specs.Premises.{takes, receives, took, received, before, each, correctAll, correctTakes, premise1, premise2, premise3, premise4, premise5, premise6, premise7, premise8, premises, reached, votesHeard, adjustsHeard, quietBetween, firstBroken}
+use Rattle.protocol.specs.Claim.{CorrectHead}
+use Rattle.protocol.proofs.Tests.{absurd-bool, cases, and-left, and-right, and-both, or-first, or-second, or-cases, implied, not-true, eqb-same, all-below, count-some}
+use Rattle.protocol.proofs.Moments.{Earlier, now, later, earlier-trans, earlier-past, any-grows, any-map, First, first-of, before-stays, find-after, each-at}
+use Rattle.protocol.proofs.Effects.{Kind, votes, adjusts, phaseOf, delivery, closing, none-is-some, same-number}
+use Rattle.protocol.proofs.Valid.{Valid, valid-past, valid-taken, valid-earlier, Taken, Sheet, by-head, closed-took}
+use Rattle.protocol.proofs.Phases.{held, sent, isOver, held-other, Origin, own, heard, Turn, quiet, spoke, Spoke, turn, agree}
+
+pub record Round (g : Setting) (h : History) : Type 0 where
+  pub sheet : Sheet g h
+  pub p1 : premise1 g ≡ true
+  pub p2 : premise2 g h ≡ true
+  pub p3 : premise3 g h ≡ true
+  pub p4 : premise4 g h ≡ true
+  pub p5 : premise5 g h ≡ true
+  pub p6 : premise6 g h ≡ true
+  pub p7 : premise7 g h ≡ true
+  pub p8 : premise8 g h ≡ true
+
+none-broken : (i : ℕ) (l : List Bool) → firstBroken i l ≡ Kept → all (λ b. b) l ≡ true
+unfolding firstBroken
+none-broken i [] e = refl
+none-broken i (true ∷ l) e = none-broken (suc i) l e
+none-broken i (false ∷ l) e = absurd (let z : _≡_ {A = ℕ} 0 1 = cc in omega arith)
+
+pub kept-round : (g : Setting) (h : History) → Sheet g h → firstBroken 1 (premises g h) ≡ Kept → Round g h
+kept-round g h a e =
+    let e1 = none-broken 1 (premises g h) e in
+    let e2 = and-right (premise1 g) _ e1 in
+    let e3 = and-right (premise2 g h) _ e2 in
+    let e4 = and-right (premise3 g h) _ e3 in
+    let e5 = and-right (premise4 g h) _ e4 in
+    let e6 = and-right (premise5 g h) _ e5 in
+    let e7 = and-right (premise6 g h) _ e6 in
+    let e8 = and-right (premise7 g h) _ e7 in
+    record { sheet = a; p1 = and-left (premise1 g) _ e1; p2 = and-left (premise2 g h) _ e2; p3 = and-left (premise3 g h) _ e3; p4 = and-left (premise4 g h) _ e4;
+      p5 = and-left (premise5 g h) _ e5; p6 = and-left (premise6 g h) _ e6; p7 = and-left (premise7 g h) _ e7; p8 = and-left (premise8 g h) _ e8 }
+
+module _ {g : Setting} where
+  pub correct-at : (p : ℕ → Bool) → correctAll g p ≡ true → {q : ℕ} → CorrectHead g q → p q ≡ true
+  correct-at p e {q} c = implied (isCorrect g q) (p q) (all-below (g .n) (λ q. isCorrect g q ⇒ p q) e q (c .is-head)) (c .is-correct)
+
+  -- what a correct head took, a correct head took
+  pub took-correct : (a : ℕ) {q : ℕ} (s : History) → CorrectHead g q → took a q s ≡ true → any (correctTakes g a) s ≡ true
+  took-correct a {q} s c =
+      any-map (takes a q) (correctTakes g a) (λ e u. and-both (ap (isCorrect g) (eqb-true (e .entry .head) q (and-left (eqb (e .entry .head) q) _ u)) ∙ c .is-correct)
+      (and-right (eqb (e .entry .head) q) _ u)) s
+
+-- no delivery is a close
+apart : (k : Kind) (a : ℕ) → a ≡ delivery k → a ≡ closing k → ⊥
+apart votes a d c = omega arith
+apart adjusts a d c = omega arith
+
+module _ {g : Setting} {h : History} (r : Round g h) where
+  -- at least f + 1 heads are correct
+  pub correct-heads : g .f < countBelow (g .n) (isCorrect g)
+  unfolding premise1
+  correct-heads = let le = leb-true (g .n - g .f) (countBelow (g .n) (isCorrect g)) (r .p1) in let few = r .sheet .few-faulty in omega arith
+
+  pub some-correct : (q : ℕ) × CorrectHead g q
+  some-correct =
+      let lt = correct-heads in
+      let x = count-some (g .n) (isCorrect g) (omega arith) in
+      (x .0, record { is-head = x .1; is-correct = x .2 })
+
+  -- premise 4
+  pub takes-all : {q : ℕ} → CorrectHead g q → (took 6 q h ≡ true) × (took 7 q h ≡ true) × (took 9 q h ≡ true)
+  unfolding premise4
+  takes-all {q} c =
+      let e = correct-at (λ q. took 6 q h && (took 7 q h && took 9 q h)) (r .p4) c in
+      let e2 = and-right (took 6 q h) _ e in
+      (and-left (took 6 q h) _ e, and-left (took 7 q h) _ e2, and-right (took 7 q h) _ e2)
+
+  pub closes : (k : Kind) {q : ℕ} → CorrectHead g q → took (closing k) q h ≡ true
+  closes votes c = takes-all c .0
+  closes adjusts c = takes-all c .2
+
+module _ {g : Setting} {h : History} (r : Round g h) (k : Kind) where
+  abbrev pub isClose : Event → Bool
+  isClose = correctTakes g (closing k)
+
+  -- the moment before the first correct close of the phase
+  abbrev pub moment : History
+  moment = before isClose h
+
+  pub has-close : any isClose h ≡ true
+  has-close = let x = some-correct r in took-correct (closing k) h (x .1) (closes r k (x .1))
+
+  pub first-close : First isClose h
+  first-close = first-of isClose h has-close
+
+  pub moment-earlier : Earlier moment h
+  moment-earlier = earlier-past (first-close .there)
+
+  pub valid-moment : Valid g moment
+  valid-moment = valid-earlier moment-earlier (r .sheet .valid)
+
+  -- until then no correct head has closed
+  pub none-closed : {s : History} → Earlier s moment → {q : ℕ} → CorrectHead g q → took (closing k) q s ≡ false
+  none-closed {s} x {q} c =
+      cases (took (closing k) q s) (λ t. absurd-bool (any-grows isClose x (took-correct (closing k) s c t)) (first-close .none-before)) (λ t. t)
+
+  pub still-open : {s : History} → Earlier s moment → {q : ℕ} → CorrectHead g q → isOver g k s q ≡ false
+  still-open x {q} c = closed-took g k (valid-earlier x valid-moment) q ∙ none-closed x c
+
+  -- premises 5 and 7: by then every frame of a correct head reached the other correct heads
+  reached-at : (s : History) (p : ℕ) → reached g (delivery k) (sent g k s p) s p ≡ true → (j : ℕ) → j < sent g k s p
+      → {q : ℕ} → CorrectHead g q → eqb q p ≡ false → received (delivery k) p j q s ≡ true
+  unfolding reached
+  reached-at s p e j l {q} c d =
+      implied (not (eqb q p)) _ (correct-at (λ q. not (eqb q p) ⇒ received (delivery k) p j q s)
+      (all-below (sent g k s p) (λ j. correctAll g (λ q. not (eqb q p) ⇒ received (delivery k) p j q s)) e j l) c) (rw d refl)
+
+-- premises 5 and 7 at their moments
+module _ {g : Setting} {h : History} (r : Round g h) where
+  pub votes-heard : {q : ℕ} → CorrectHead g q
+      → ((took 5 q (moment r votes) || (took 1 q (moment r votes) && (took 3 q (moment r votes) && took 4 q (moment r votes)))) ≡ true)
+      × ((took 1 q (moment r votes) ⇒ correctAll g (λ p. received 2 q 0 p (moment r votes))) ≡ true)
+      × (reached g 5 (sent g votes (moment r votes) q) (moment r votes) q ≡ true)
+  unfolding premise5 votesHeard
+  votes-heard {q} c =
+      let s = moment r votes in
+      let e = correct-at (λ p. (took 5 p s || (took 1 p s && (took 3 p s && took 4 p s))) && ((took 1 p s ⇒ correctAll g (λ q. received 2 p 0 q s)) && reached g 5 (recordOf g s p .vote .sent) s p))
+          (implied (any (correctTakes g 6) h) _ (r .p5) (has-close r votes)) c in
+      let e2 = and-right (took 5 q s || (took 1 q s && (took 3 q s && took 4 q s))) _ e in
+      (and-left (took 5 q s || (took 1 q s && (took 3 q s && took 4 q s))) _ e, and-left (took 1 q s ⇒ correctAll g (λ p. received 2 q 0 p s)) _ e2,
+      and-right (took 1 q s ⇒ correctAll g (λ p. received 2 q 0 p s)) _ e2)
+
+  pub adjusts-heard : {q : ℕ} → CorrectHead g q → (took 7 q (moment r adjusts) ≡ true) × (reached g 8 (sent g adjusts (moment r adjusts) q) (moment r adjusts) q ≡ true)
+  unfolding premise7 adjustsHeard
+  adjusts-heard {q} c =
+      let s = moment r adjusts in
+      let e = correct-at (λ p. took 7 p s && reached g 8 (recordOf g s p .adjust .sent) s p) (implied (any (correctTakes g 9) h) _ (r .p7) (has-close r adjusts)) c in
+      (and-left (took 7 q s) _ e, and-right (took 7 q s) _ e)
+
+  all-reached : (k : Kind) {p : ℕ} → CorrectHead g p → reached g (delivery k) (sent g k (moment r k) p) (moment r k) p ≡ true
+  all-reached votes c = votes-heard c .2
+  all-reached adjusts c = adjusts-heard c .1
+
+module _ {g : Setting} {h : History} (r : Round g h) (k : Kind) where
+  pub reaches : {p q : ℕ} → CorrectHead g p → CorrectHead g q → eqb q p ≡ false → (j : ℕ) → j < sent g k (moment r k) p → received (delivery k) p j q (moment r k) ≡ true
+  reaches {p} cp cq d j l = reached-at r k (moment r k) p (all-reached r k cp) j l cq d
+
+  -- (b) two correct heads that have a choice then have the same
+  pub same-choice : {p q : ℕ} → CorrectHead g p → CorrectHead g q → (c w : ℕ) → held g k (moment r k) p ≡ SomeNumber c → held g k (moment r k) q ≡ SomeNumber w → c ≡ w
+  same-choice {p} {q} cp cq c w hp hq =
+      cases (eqb p q) (λ t. same-number (sym hp ∙ ap (held g k (moment r k)) (eqb-true p q t) ∙ hq))
+      (λ d. agree g k (r .sheet .at-most-16) (valid-moment r k) p q c w hp hq
+      (reaches cp cq (ne-eqb q p (λ e. eqb-false p q d (sym e)))) (reaches cq cp d) (still-open r k now cp) (still-open r k now cq))
+
+  -- premises 6 and 8: a frame that reaches a correct head after the first correct close finds it closed
+  quiet-premise : quietBetween g (delivery k) (closing k) h ≡ true
+  unfolding premise6 premise8
+  quiet-premise = go k
+    where
+      go : (k : Kind) → quietBetween g (delivery k) (closing k) h ≡ true
+      go votes = r .p6
+      go adjusts = r .p8
+
+  finds-closed : {s : History} (e : Event) → Earlier (e ∷ s) h → any (isClose r k) s ≡ true → CorrectHead g (e .entry .head) → e .entry .action ≡ delivery k → isOver g k s (e .entry .head) ≡ true
+  unfolding quietBetween
+  finds-closed {s} e x begun c a =
+      closed-took g k (valid-earlier (earlier-past x) (r .sheet .valid)) (e .entry .head)
+      ∙ cases (took (closing k) (e .entry .head) s) (λ u. u)
+      (λ u. let open-yet : took (closing k) (e .entry .head) (e ∷ s) ≡ false = rw (eqb-same (e .entry .head), ne-eqb (e .entry .action) (closing k) (apart k (e .entry .action) a)) u in
+      let b = find-after (takes (closing k) (e .entry .head)) x (closes r k c) open-yet in
+      let is : b .event .entry .head ≡ e .entry .head = eqb-true _ _ (and-left (eqb (b .event .entry .head) (e .entry .head)) _ (b .holds)) in
+      let closing-it : isClose r k (b .event) ≡ true = and-both (ap (isCorrect g) is ∙ c .is-correct) (and-right (eqb (b .event .entry .head) (e .entry .head)) _ (b .holds)) in
+      let inner = implied (isClose r k (b .event)) _ (each-at _ quiet-premise (b .there)) closing-it in
+      let here = implied (correctTakes g (delivery k) e) _ (each-at _ inner (b .since)) (and-both (c .is-correct) (eq-eqb _ _ a)) in
+      absurd-bool begun (not-true here))
+
+  -- (c) A CHOICE THAT EVERY CORRECT HEAD HAS AT THE FIRST CLOSE STAYS
+  module _ (has : (q : ℕ) → CorrectHead g q → (c : ℕ) × (held g k (moment r k) q ≡ SomeNumber c)) where
+    pub chosen : ℕ
+    chosen = has (some-correct r .0) (some-correct r .1) .0
+
+    pub Settled : History → Type 0
+    Settled s = (q : ℕ) → CorrectHead g q → held g k s q ≡ SomeNumber chosen
+
+    settled-first : Settled (moment r k)
+    unfolding Settled chosen
+    settled-first q c =
+        let x = has q c in
+        let y = some-correct r in
+        x .1 ∙ ap (λ (z : ℕ). SomeNumber z) (same-choice c (y .1) (x .0) _ (x .1) (has (y .0) (y .1) .1))
+
+    settled-step : {s : History} {e : Event} → Settled s → Taken g s e → Valid g s → (CorrectHead g (e .entry .head) → e .entry .action ≡ delivery k → isOver g k s (e .entry .head) ≡ true)
+        → Settled (e ∷ s)
+    unfolding Settled
+    settled-step {s} {e} z t v finds q =
+        by-head (λ q. CorrectHead g q → held g k (e ∷ s) q ≡ SomeNumber chosen) e q (λ c. go c (turn g k t v))
+        (λ d c. held-other g k e s q d ∙ z q c)
+      where
+        silent : (x : Spoke g k s e) → CorrectHead g (e .entry .head) → Origin g k s e (x .choice) → ⊥
+        silent x c (own is none tu) = none-is-some (sym none ∙ z (e .entry .head) c)
+        silent x c (heard a n) = absurd-bool (finds c a) (x .was-open)
+        go : CorrectHead g (e .entry .head) → Turn g k s e → held g k (e ∷ s) (e .entry .head) ≡ SomeNumber chosen
+        go c (quiet x) = x .held-same ∙ z (e .entry .head) c
+        go c (spoke x) = absurd (silent x c (x .origin))
+
+    settled-after : {s : History} (b : Event) → isClose r k b ≡ true → Earlier (b ∷ moment r k) s → Earlier s h → Settled s
+    settled-after b close now x =
+        let v = valid-earlier x (r .sheet .valid) in
+        settled-step settled-first (valid-taken v) (valid-past v) (λ c a. absurd (apart k _ a (eqb-true _ _ (and-right (isCorrect g (b .entry .head)) _ close))))
+    settled-after b close (later {e = e} y) x =
+        let v = valid-earlier x (r .sheet .valid) in
+        settled-step (settled-after b close y (earlier-past x)) (valid-taken v) (valid-past v)
+        (finds-closed e x (any-grows (isClose r k) y (or-first (isClose r k b) _ close)))
+
+    pub choice-stays : {s : History} → Earlier s h → any (isClose r k) s ≡ true → {q : ℕ} → CorrectHead g q → held g k s q ≡ SomeNumber chosen
+    unfolding Settled
+    choice-stays {s} x begun {q} c =
+        let f = first-of (isClose r k) s begun in
+        settled-after (f .event) (f .holds) (subst (λ (m : History). Earlier (f .event ∷ m) s) (sym (before-stays (isClose r k) x begun)) (f .there)) x q c
