@@ -12,7 +12,7 @@ use lib.Seq.{getD-set-same, getD-set-other}
 use borrow.Author.Tests.{eqb-true, eqb-false}
 use Rattle.protocol.specs.Types.{Reading, OptReading, NoReading, SomeReading, OptNumber, NoNumber, SomeNumber, Sender, Phase, HeadRecord, Stepped, Verdict, Accepted, Frame, NoFrame, Start, Vote, Adjust}
 use Rattle.protocol.specs.Types.{Action, Look, StartSent, StartDelivered, StartConfirmed, VoteTurn, VoteDelivered, VoteClose, AdjustTurn, AdjustDelivered, AdjustClose}
-use Rattle.protocol.specs.Record.{isNumber, reading, noSender, keptOf, startOf}
+use Rattle.protocol.specs.Record.{isNumber, reading, noSender, keptOf, startOf, voteOf}
 use Rattle.protocol.specs.Median.{median}
 use Rattle.protocol.specs.Step.{choose, withStart, withVoteReading, withVoted, withAdjusted, withLast, accepted, silent, vote, adjust, mayLead, lead, voteReadings, mayAdjust, propose, isAbove, outranks, delivered, effect, isClosed}
 use Rattle.protocol.specs.Run.{isDeliveredBy, carriedReading}
@@ -228,13 +228,26 @@ pub prepared-sent : (k : Kind) (r : HeadRecord) (a : Action) → phaseOf k (prep
 prepared-sent votes r a = refl
 prepared-sent adjusts r a = refl
 
+pub prepared-closed : (k : Kind) (r : HeadRecord) (a : Action) → phaseOf k (prepared r a) .closed ≡ (eqb (number a) (closing k) || phaseOf k r .closed)
+prepared-closed votes r a = refl
+prepared-closed adjusts r a = refl
+
+no-close : (k : Kind) → eqb (delivery k) (closing k) ≡ false
+no-close votes = refl
+no-close adjusts = refl
+
 pub phase-last : (k : Kind) (r : HeadRecord) (x : Reading) → phaseOf k (withLast r x) ≡ phaseOf k r
 phase-last votes r x = refl
 phase-last adjusts r x = refl
 
+-- a speech leaves the marks of a phase
 pub chosen-turn : (m : OptNumber) (p : Phase) → chosenBy m p .turn ≡ p .turn
 chosen-turn NoNumber p = refl
 chosen-turn (SomeNumber c) p = refl
+
+pub chosen-closed : (m : OptNumber) (p : Phase) → chosenBy m p .closed ≡ p .closed
+chosen-closed NoNumber p = refl
+chosen-closed (SomeNumber c) p = refl
 
 -- the frame of a speech: of the phase, its serial is the number sent before, and it names the choice
 abbrev pub saidUnder : OptNumber → ℕ → ℕ → OptNumber
@@ -259,19 +272,20 @@ pub data Why (k : Kind) (r : HeadRecord) (a : Action) (c : ℕ) : Type 0 where
 
 pub record Speaks (k : Kind) (r : HeadRecord) (a : Action) (c : ℕ) : Type 0 where
   pub is-open : phaseOf k r .closed ≡ false
+  pub stays-open : phaseOf k (prepared r a) .closed ≡ false
   pub higher : outranks c (phaseOf k r .choice) ≡ true
   pub why : Why k r a c
 
 -- where an adjustment comes from: computed at the head's own turn, or carried by the frame that it passes on
-pub data Source (a : Action) (x : Reading) : Type 0 where
-  computed : number a ≡ 7 → Source a x
-  passed-on : number a ≡ 8 → carriedReading (deliveryIn a .frame) ≡ SomeReading x → Source a x
+pub data Source (r : HeadRecord) (a : Action) (x : Reading) : Type 0 where
+  computed : number a ≡ 7 → x ≡ reading (median (voteReadings (prepared r a) (r .n))) → Source r a x
+  passed-on : number a ≡ 8 → carriedReading (deliveryIn a .frame) ≡ SomeReading x → Source r a x
 
 pub data Spoken (r : HeadRecord) (a : Action) : Speech → Type 0 where
   says-nothing : Spoken r a nothing
   says-start : number a ≡ 1 → Spoken r a start
   says-vote : {c : ℕ} → Speaks votes r a c → Spoken r a (voting c)
-  says-adjust : {c : ℕ} {x : Reading} → Speaks adjusts r a c → Source a x → Spoken r a (adjusting c x)
+  says-adjust : {c : ℕ} {x : Reading} → Speaks adjusts r a c → Source r a x → Spoken r a (adjusting c x)
 
 pub no-number : (m : OptNumber) → isNumber m ≡ false → m ≡ NoNumber
 no-number NoNumber e = refl
@@ -279,18 +293,16 @@ no-number (SomeNumber v) e = absurd-bool refl e
 
 -- the rule after 2 and 4, at the record that the action prepared
 spoken-lead : (r m : HeadRecord) (a : Action) → m .vote .closed ≡ r .vote .closed → m .vote .choice ≡ r .vote .choice → m .vote .turn ≡ prepared r a .vote .turn
-    → Spoken r a (cond (mayLead m) (voting (r .own)) nothing)
+    → m .vote .closed ≡ prepared r a .vote .closed → Spoken r a (cond (mayLead m) (voting (r .own)) nothing)
 unfolding mayLead
-spoken-lead r m a cl ch tu =
+spoken-lead r m a cl ch tu ca =
     cond-elim (Spoken r a) (mayLead m)
     (λ t. let t2 = and-right (m .vote .turn) _ t in
     let t3 = and-right (not (m .vote .closed)) _ t2 in
     let none : r .vote .choice ≡ NoNumber = sym ch ∙ no-number _ (not-true (and-left (not (isNumber (m .vote .choice))) _ t3)) in
-    says-vote (record {
-      is-open = sym cl ∙ not-true (and-left (not (m .vote .closed)) _ t2);
-      higher = rw none refl;
-      why = itself refl none (sym tu ∙ and-left (m .vote .turn) _ t);
-    }))
+    let unclosed = not-true (and-left (not (m .vote .closed)) _ t2) in
+    says-vote (record { is-open = sym cl ∙ unclosed; stays-open = sym ca ∙ unclosed; higher = rw none refl;
+      why = itself refl none (sym tu ∙ and-left (m .vote .turn) _ t) }))
     (λ _. says-nothing)
 
 -- a delivered frame, passed over or taken
@@ -299,7 +311,8 @@ spoken-delivery : (k : Kind) (r : HeadRecord) (a : Action) (p j c : ℕ) (x : Sp
 spoken-delivery k r a p j c x nu na say =
     cond-elim (Spoken r a) (passedOver k r p j) (λ _. says-nothing)
     (λ t. cond-elim (Spoken r a) (outranks c (phaseOf k r .choice))
-    (λ u. say (record { is-open = or-left (phaseOf k r .closed) _ t; higher = u; why = told nu na })) (λ _. says-nothing))
+    (λ u. let unclosed = or-left (phaseOf k r .closed) _ t in
+    say (record { is-open = unclosed; stays-open = prepared-closed k r a ∙ rw (nu, no-close k, unclosed) refl; higher = u; why = told nu na })) (λ _. says-nothing))
 
 pub spoken : (r : HeadRecord) (a : Action) → isClosed r a ≡ false → Spoken r a (speechOf r a)
 unfolding isClosed mayAdjust
@@ -307,15 +320,16 @@ spoken r Look e = says-nothing
 spoken r StartSent e = says-start refl
 spoken r (StartDelivered p) e =
     cond-elim (Spoken r (StartDelivered p)) (r .adjust .closed) (λ _. says-nothing)
-    (λ _. spoken-lead r (withSenders r (set (r .senders) p (withStart (keptOf r p) (SomeReading (r .last))))) (StartDelivered p) refl refl refl)
+    (λ _. spoken-lead r (withSenders r (set (r .senders) p (withStart (keptOf r p) (SomeReading (r .last))))) (StartDelivered p) refl refl refl refl)
 spoken r StartConfirmed e = says-nothing
-spoken r VoteTurn e = spoken-lead r (prepared r VoteTurn) VoteTurn refl refl refl
+spoken r VoteTurn e = spoken-lead r (prepared r VoteTurn) VoteTurn refl refl refl refl
 spoken r (VoteDelivered p k c x) e = spoken-delivery votes r (VoteDelivered p k c x) p k c (voting c) refl refl says-vote
 spoken r VoteClose e = says-nothing
 spoken r AdjustTurn e =
     cond-elim (Spoken r AdjustTurn) (mayAdjust (prepared r AdjustTurn))
     (λ t. let none : r .adjust .choice ≡ NoNumber = no-number _ (not-true (and-left (not (isNumber (r .adjust .choice))) _ (and-right (isNumber (r .vote .choice)) _ t))) in
-    says-adjust (record { is-open = or-right (r .adjust .turn) _ (or-right (not (r .vote .closed)) _ e); higher = rw none refl; why = itself refl none refl }) (computed refl))
+    let unclosed = or-right (r .adjust .turn) _ (or-right (not (r .vote .closed)) _ e) in
+    says-adjust (record { is-open = unclosed; stays-open = unclosed; higher = rw none refl; why = itself refl none refl }) (computed refl refl))
     (λ _. says-nothing)
 spoken r (AdjustDelivered p k c x) e = spoken-delivery adjusts r (AdjustDelivered p k c x) p k c (adjusting c x) refl refl (λ y. says-adjust y (passed-on refl refl))
 spoken r AdjustClose e = says-nothing
@@ -388,6 +402,15 @@ size-if false l p k = length-set l p k
 
 pub prepared-same : (r : HeadRecord) (a : Action) → Same r (prepared r a)
 prepared-same r a = record { n = refl; f = refl; own = refl; last = refl; size = size-if (ignored r (deliveryIn a .sender) (deliveryIn a .frame)) (r .senders) (deliveryIn a .sender) (keptAfter r (deliveryIn a .sender) (deliveryIn a .frame)) }
+
+-- a part of what is kept that a frame leaves as it was is so for every sender
+pub column-kept : {X : Type 0} (part : Sender → X) (r : HeadRecord) (p : ℕ) (x : Frame) (v : ℕ) → part (keptAfter r p x) ≡ part (keptOf r p)
+    → part (getD (sendersAfter r p x) v noSender) ≡ part (keptOf r v)
+column-kept part r p x v e = go (ignored r p x)
+  where
+    go : (i : Bool) → part (getD (cond i (r .senders) (set (r .senders) p (keptAfter r p x))) v noSender) ≡ part (keptOf r v)
+    go true = refl
+    go false = set-keeps part (r .senders) p v (keptAfter r p x) e
 
 -- what is kept by sender v after a delivery from p
 pub kept-after : (r : HeadRecord) (p : ℕ) (x : Frame) (v : ℕ) → p < length (r .senders)
@@ -469,3 +492,40 @@ heard-speech votes r (AdjustDelivered p j w x) c nu na t u = absurd (omega arith
 heard-speech adjusts r (AdjustDelivered p j w x) c nu na t u =
     says-if adjusts (passedOver adjusts r p j) (outranks w (r .adjust .choice)) (adjusting w x) t (rw (same-number na) u) ∙ na
 heard-speech k r AdjustClose c nu na t u = none-is-some na
+
+-- A HEAD'S OWN VOTE READING
+
+-- no delivery changes it, since a vote from oneself is closed
+pub own-kept : (r : HeadRecord) (a : Action) → isClosed r a ≡ false → voteOf (prepared r a) (r .own) ≡ voteOf r (r .own)
+unfolding isClosed
+own-kept r Look e = refl
+own-kept r StartSent e = refl
+own-kept r (StartDelivered p) e = column-kept (λ k. k .vote) r p Start (r .own) refl
+own-kept r StartConfirmed e = refl
+own-kept r VoteTurn e = refl
+own-kept r (VoteDelivered p k c x) e = go (passedOver votes r p k)
+  where
+    go : (b : Bool) → getD (cond b (r .senders) (set (r .senders) p (withVoted (withVoteReading (keptOf r p) x) k))) (r .own) noSender .vote ≡ voteOf r (r .own)
+    go true = refl
+    go false = ap (λ (z : Sender). z .vote) (getD-set-other (r .senders) p (r .own) _ noSender (λ d. eqb-false p (r .own) e (sym d)))
+own-kept r VoteClose e = refl
+own-kept r AdjustTurn e = refl
+own-kept r (AdjustDelivered p k c x) e = column-kept (λ z. z .vote) r p (Adjust k c x) (r .own) refl
+own-kept r AdjustClose e = refl
+
+-- only a vote changes it: it becomes the start reading of the candidate
+pub own-unspoken : (x : Speech) (m : HeadRecord) → said votes x ≡ NoNumber → voteOf (utter x m .after) (m .own) ≡ voteOf m (m .own)
+unfolding adjust
+own-unspoken nothing m e = refl
+own-unspoken start m e = refl
+own-unspoken (voting c) m e = none-is-some (sym e)
+own-unspoken (adjusting c x) m e = refl
+
+pub own-spoken : (x : Speech) (m : HeadRecord) (c : ℕ) → m .own < length (m .senders) → said votes x ≡ SomeNumber c → voteOf (utter x m .after) (m .own) ≡ startOf (utter x m .after) c
+unfolding vote
+own-spoken nothing m c b e = none-is-some e
+own-spoken start m c b e = none-is-some e
+own-spoken (voting w) m c b e =
+    subst (λ (z : ℕ). voteOf (vote w m .after) (m .own) ≡ startOf (vote w m .after) z) (same-number e)
+    (ap (λ (z : Sender). z .vote) (getD-set-same (m .senders) (m .own) _ noSender b) ∙ sym (set-keeps (λ z. z .start) (m .senders) (m .own) w _ refl))
+own-spoken (adjusting w x) m c b e = none-is-some e

@@ -21,7 +21,7 @@ use Rattle.protocol.specs.Premises.{takes, receives, received}
 use Rattle.protocol.specs.Premises as Premises
 use Rattle.protocol.proofs.Tests.{absurd-bool, cases, cond-elim, and-left, and-right, and-both, or-first, or-left, or-right, or-cases, not-true, not-false, eqb-same}
 use Rattle.protocol.proofs.Moments.{Earlier, now, later, any-grows, find}
-use Rattle.protocol.proofs.Effects.{Kind, votes, adjusts, phaseOf, takenOf, delivery, closing, number, deliveryIn, deliveredBy, serialOf, named, namedBy, taken, passedOver, ignored, keptAfter, Delivery, prepared, Speech, utter, speechOf, said, chosenBy, saidUnder, prepared-choice, prepared-sent, phase-last, chosen-turn, phase-after, named-after, Spoken, spoken, Speaks, speaks, Why, itself, told, utter-keeps, kept-after, none-is-some, same-number, closed-last, taken-after, ignored-frame, heard-speech}
+use Rattle.protocol.proofs.Effects.{Kind, votes, adjusts, phaseOf, takenOf, delivery, closing, number, deliveryIn, deliveredBy, serialOf, named, namedBy, taken, passedOver, ignored, keptAfter, Delivery, prepared, Speech, utter, speechOf, said, chosenBy, saidUnder, prepared-choice, prepared-sent, phase-last, chosen-turn, chosen-closed, phase-after, named-after, Spoken, spoken, Speaks, speaks, Why, itself, told, utter-keeps, kept-after, none-is-some, same-number, closed-last, taken-after, ignored-frame, heard-speech}
 use Rattle.protocol.proofs.Valid.{baseOf, Taken, Valid, start, more, frame-fits, record-at, record-other, by-head, of-effect, fixed, keptNext, kept-at, closed-took}
 
 -- the first of two that is there
@@ -146,6 +146,7 @@ module _ (g : Setting) (k : Kind) where
   pub record Spoke (s : History) (e : Event) : Type 0 where
     pub choice : ℕ
     pub was-open : isOver s (e .entry .head) ≡ false
+    pub stays-open : isOver (e ∷ s) (e .entry .head) ≡ false
     pub higher : outranks choice (held s (e .entry .head)) ≡ true
     pub origin : Origin s e choice
     pub held-new : held (e ∷ s) (e .entry .head) ≡ SomeNumber choice
@@ -157,17 +158,17 @@ module _ (g : Setting) (k : Kind) where
     spoke : Spoke s e → Turn s e
 
   -- the event's speech, and the record that its step prepared
-  abbrev speechAt : {s : History} {e : Event} → Taken g s e → Speech
+  abbrev pub speechAt : {s : History} {e : Event} → Taken g s e → Speech
   speechAt {s} {e} t = speechOf (baseOf g s e) (t .action)
 
-  abbrev preparedAt : {s : History} {e : Event} → Taken g s e → HeadRecord
+  abbrev pub preparedAt : {s : History} {e : Event} → Taken g s e → HeadRecord
   preparedAt {s} {e} t = prepared (baseOf g s e) (t .action)
 
-  phase-at : {s : History} {e : Event} (t : Taken g s e) → phaseOf k (recordOf g (e ∷ s) (e .entry .head)) ≡ chosenBy (said k (speechAt t)) (phaseOf k (preparedAt t))
+  pub phase-at : {s : History} {e : Event} (t : Taken g s e) → phaseOf k (recordOf g (e ∷ s) (e .entry .head)) ≡ chosenBy (said k (speechAt t)) (phaseOf k (preparedAt t))
   phase-at {s} {e} t =
       rw (record-at g e s) (of-effect g (λ y. phaseOf k (y .after) ≡ chosenBy (said k (speechAt t)) (phaseOf k (preparedAt t))) t (phase-after k (speechAt t) (preparedAt t)))
 
-  choice-at : {s : History} {e : Event} (t : Taken g s e) → phaseOf k (preparedAt t) .choice ≡ held s (e .entry .head)
+  pub choice-at : {s : History} {e : Event} (t : Taken g s e) → phaseOf k (preparedAt t) .choice ≡ held s (e .entry .head)
   choice-at {s} {e} t = prepared-choice k (baseOf g s e) (t .action) ∙ ap (λ (p : Phase). p .choice) (phase-last k _ _)
 
   sent-at : {s : History} {e : Event} (t : Taken g s e) → phaseOf k (preparedAt t) .sent ≡ sent s (e .entry .head)
@@ -203,6 +204,7 @@ module _ (g : Setting) (k : Kind) where
           spoke (record {
             choice = c;
             was-open = ap (λ (p : Phase). p .closed) (sym (phase-last k _ _)) ∙ w .is-open;
+            stays-open = ap (λ (p : Phase). p .closed) (phase-at t) ∙ chosen-closed (said k (speechAt t)) _ ∙ w .stays-open;
             higher = rw (phase-last k (recordOf g s (e .entry .head)) (e .entry .reading)) at (w .higher);
             origin = origin-at t v c (w .why);
             held-new = ap (λ (p : Phase). p .choice) (phase-at t) ∙ rw u refl;

@@ -13,13 +13,13 @@ use Rattle.protocol.specs.Base.{any, countBelow}
 use Rattle.protocol.specs.Types.{Reading, OptReading, NoReading, SomeReading, OptNumber, NoNumber, SomeNumber, Sender, Phase, HeadRecord, Setting, Entry, Stepped, Frame, NoFrame, Start, Vote, Adjust}
 use Rattle.protocol.specs.Types.{Action, Look, StartSent, StartDelivered, StartConfirmed, VoteTurn, VoteDelivered, VoteClose, AdjustTurn, AdjustDelivered, AdjustClose}
 use Rattle.protocol.specs.Words.{hasSender}
-use Rattle.protocol.specs.Record.{isReading, isNumber, noSender, keptOf, startOf, fresh}
+use Rattle.protocol.specs.Record.{isReading, isNumber, keptOf, startOf, fresh}
 use Rattle.protocol.specs.Step.{vote, adjust, startsHeld, mayLead}
 use Rattle.protocol.specs.Run.{Event, History, recordOf, frameSent, frameOf}
 use Rattle.protocol.specs.Premises.{takes, receives, took, received, lastStart}
 use Rattle.protocol.proofs.Tests.{absurd-bool, cases, cond-elim, and-left, and-right, and-both, or-first, or-second, or-left, or-right, or-cases, not-true, not-false, eqb-same, count-mono}
 use Rattle.protocol.proofs.Moments.{Earlier, now, later, any-grows, find}
-use Rattle.protocol.proofs.Effects.{Kind, votes, adjusts, phaseOf, deliveredBy, withSenders, ignored, keptAfter, sendersAfter, set-keeps, prepared, Speech, nothing, voting, adjusting, utter, speechOf, none-is-some}
+use Rattle.protocol.proofs.Effects.{Kind, votes, adjusts, phaseOf, deliveredBy, withSenders, ignored, keptAfter, column-kept, prepared, Speech, nothing, voting, adjusting, utter, speechOf, none-is-some}
 use Rattle.protocol.proofs.Effects as Effects
 use Rattle.protocol.proofs.Valid.{baseOf, Taken, Valid, start, more, record-at, record-other, by-head, invariant, keptNext, kept-at, closed-took, confirmed-took}
 use Rattle.protocol.proofs.Phases.{held, sent, names, names-other, Origin, own, heard, Turn, quiet, spoke, turn, frame-new, LastFrame, last-frame, held-sent}
@@ -71,14 +71,6 @@ waiting-lead m c = go (mayLead m) refl
         let lt = leb-false (m .f + 1) (startsHeld m) few in
         omega arith
 
--- a frame that is no start changes no start reading
-start-column : (r : HeadRecord) (p : ℕ) (x : Frame) (v : ℕ) → eqb (deliveredBy x) 2 ≡ false → getD (sendersAfter r p x) v noSender .start ≡ startOf r v
-start-column r p x v e = go (ignored r p x)
-  where
-    go : (i : Bool) → getD (cond i (r .senders) (set (r .senders) p (keptAfter r p x))) v noSender .start ≡ startOf r v
-    go true = refl
-    go false = set-keeps (λ k. k .start) (r .senders) p v (keptAfter r p x) (start-kept r p x e)
-
 waiting-effect : (r : HeadRecord) (a : Action) → Waiting r → Waiting (utter (speechOf r a) (prepared r a) .after)
 unfolding startsHeld
 waiting-effect r Look w = waiting-utter nothing (prepared r Look) w
@@ -94,12 +86,12 @@ waiting-effect r StartConfirmed w = waiting-utter nothing (prepared r StartConfi
 waiting-effect r VoteTurn w = waiting-lead (prepared r VoteTurn) (r .own)
 waiting-effect r (VoteDelivered p k c x) w =
     waiting-utter (speechOf r (VoteDelivered p k c x)) (prepared r (VoteDelivered p k c x))
-    (waiting-same r (prepared r (VoteDelivered p k c x)) refl refl (λ h. h) (λ h. h) refl (λ v. start-column r p (Vote k c x) v refl) w)
+    (waiting-same r (prepared r (VoteDelivered p k c x)) refl refl (λ h. h) (λ h. h) refl (λ v. column-kept (λ z. z .start) r p (Vote k c x) v refl) w)
 waiting-effect r VoteClose w = waiting-utter nothing (prepared r VoteClose) (λ a b h. absurd-bool refl b)
 waiting-effect r AdjustTurn w = waiting-utter (speechOf r AdjustTurn) (prepared r AdjustTurn) w
 waiting-effect r (AdjustDelivered p k c x) w =
     waiting-utter (speechOf r (AdjustDelivered p k c x)) (prepared r (AdjustDelivered p k c x))
-    (waiting-same r (prepared r (AdjustDelivered p k c x)) refl refl (λ h. h) (λ h. h) refl (λ v. start-column r p (Adjust k c x) v refl) w)
+    (waiting-same r (prepared r (AdjustDelivered p k c x)) refl refl (λ h. h) (λ h. h) refl (λ v. column-kept (λ z. z .start) r p (Adjust k c x) v refl) w)
 waiting-effect r AdjustClose w = waiting-utter nothing (prepared r AdjustClose) w
 
 -- the delivery that gave a start reading

@@ -1,0 +1,177 @@
+-- In a round every correct head gets a candidate, knows its start reading and has a vote reading of its own, and gets an
+-- adjuster; whoever has an adjuster has the adjustment that this adjuster computed.
+-- Main results: `has-candidate` (a), `start-known` and `own-reading` (d), `has-adjuster` and `one-adjustment` (e).
+use mathlib.Core.Path.{_≡_, refl, sym, _∙_, ap, subst}
+use mathlib.Core.Bool.{Bool, true, false, cond, not, _&&_, _||_}
+use mathlib.Core.List.{List, [], _∷_}
+use Prim.Native.Nat.{ℕ, zero, suc, _+_, _-_, _≤_, _<_}
+use native.Mathlib.Omega.{arith}
+use lib.Dec.{ltb, leb, eqb}
+use lib.ListN.{length, getD, set}
+use borrow.Author.Tests.{eqb-true, eqb-false, eq-eqb, ne-eqb, leb-true}
+use Rattle.protocol.specs.Base.{_⇒_, any, all, countBelow, distance}
+use Rattle.protocol.specs.Types.{Reading, OptReading, NoReading, SomeReading, OptNumber, NoNumber, SomeNumber, Sender, Phase, HeadRecord, Setting, Stepped, Frame, NoFrame, Start, Vote, Adjust}
+use Rattle.protocol.specs.Types.{Action, Look, StartSent, StartDelivered, StartConfirmed, VoteTurn, VoteDelivered, VoteClose, AdjustTurn, AdjustDelivered, AdjustClose}
+use Rattle.protocol.specs.Words.{isCorrect}
+use Rattle.protocol.specs.Record.{isReading, isNumber, keptOf, startOf, voteOf, fresh}
+use Rattle.protocol.specs.Step.{startsHeld, isClosed}
+use Rattle.protocol.specs.Run.{Event, History, recordOf, frameSent}
+use Rattle.protocol.specs.Premises.{takes, receives, took, received, each, correctAll, correctTakes, startHeard, premise3, lastStart}
+use Rattle.protocol.specs.Claim.{CorrectHead}
+use Rattle.protocol.proofs.Tests.{absurd-bool, cases, cond-elim, and-left, and-right, and-both, or-first, or-second, or-left, or-right, or-cases, implied, not-true, not-false, eqb-same, count-mono}
+use Rattle.protocol.proofs.Moments.{Earlier, now, later, earlier-trans, earlier-past, any-grows, any-map, find, Found, each-at}
+use Rattle.protocol.proofs.Effects.{Kind, votes, adjusts, phaseOf, delivery, closing, prepared, Speech, nothing, voting, adjusting, utter, speechOf, said, chosenBy, chosen-closed, spoken, speaks, closed-last, prepared-same, none-is-some, same-number, own-kept, own-unspoken, own-spoken}
+use Rattle.protocol.proofs.Valid.{baseOf, Valid, start, more, valid-past, valid-taken, valid-earlier, Taken, Sheet, record-at, record-other, by-head, of-effect, fixed, closed-took, confirmed-took, turn-took}
+use Rattle.protocol.proofs.Phases.{held, sent, isOver, names, held-other, Origin, own, heard, Turn, quiet, spoke, Spoke, turn, phase-at, delivered-choice, held-sent}
+use Rattle.protocol.proofs.Starts.{StartAt, start-found, waits, candidate-confirmed}
+use Rattle.protocol.proofs.Rounds.{Round, correct-at, took-correct, correct-heads, some-correct, moment, moment-earlier, valid-moment, still-open, votes-heard, reaches}
+
+module _ {g : Setting} {h : History} (r : Round g h)
+    (turn-confirmed : (s : History) → Valid g s → (q : ℕ) → q < g .n → recordOf g s q .vote .turn ≡ true → recordOf g s q .confirmed ≡ true)
+    (adjust-later : (s : History) → Valid g s → (q : ℕ) → q < g .n → recordOf g s q .vote .closed ≡ false → recordOf g s q .adjust .closed ≡ false)
+    where
+  -- (a) EVERY CORRECT HEAD HAS A CANDIDATE AT THE FIRST CORRECT VOTE CLOSE
+
+  abbrev V₁ : History
+  V₁ = moment r votes
+
+  -- a head that was delivered a vote by then has one
+  told-candidate : {q : ℕ} → CorrectHead g q → took 5 q V₁ ≡ true → (c : ℕ) × (held g votes V₁ q ≡ SomeNumber c)
+  told-candidate {q} c t = delivered-choice g votes (r .sheet .at-most-16) (valid-moment r votes) q t (still-open r votes now c)
+
+  received-took : (a p k q : ℕ) (s : History) → received a p k q s ≡ true → took a q s ≡ true
+  received-took a p k q s = any-map (receives a p k q) (takes a q) (λ e u. and-left (takes a q e) _ u) s
+
+  module _ {q : ℕ} (c : CorrectHead g q) (none : held g votes V₁ q ≡ NoNumber) where
+    -- if q has none, no correct head was delivered a vote: it would have voted, and its vote would have reached q
+    no-vote : {p : ℕ} → CorrectHead g p → took 5 p V₁ ≡ true → ⊥
+    no-vote {p} d t = go (eqb q p) refl
+      where
+        voted : (w : ℕ) × (held g votes V₁ p ≡ SomeNumber w)
+        voted = told-candidate d t
+        go : (b : Bool) → eqb q p ≡ b → ⊥
+        go true u = none-is-some (sym none ∙ ap (held g votes V₁) (eqb-true q p u) ∙ voted .1)
+        go false u =
+            let j = held-sent g votes (valid-moment r votes) p (voted .0) (voted .1) in
+            let x = told-candidate c (received-took 5 p (j .0) q V₁ (reaches r votes d c u (j .0) (let y = j .1 in omega arith))) in
+            none-is-some (sym none ∙ x .1)
+
+    -- so every correct head took 1, 3 and 4
+    took-all : {p : ℕ} → CorrectHead g p → (took 1 p V₁ && (took 3 p V₁ && took 4 p V₁)) ≡ true
+    took-all {p} d = or-cases (took 5 p V₁) _ (votes-heard r d .0) (λ t. absurd (no-vote d t)) (λ t. t)
+
+    -- its start reached q, who holds the reading
+    start-held : (p : ℕ) → p < g .n → isCorrect g p ≡ true → isReading (startOf (recordOf g V₁ q) p) ≡ true
+    start-held p l t =
+        let d : CorrectHead g p = record { is-head = l; is-correct = t } in
+        let sent-it = and-left (took 1 p V₁) _ (took-all d) in
+        let there = correct-at (λ q. received 2 p 0 q V₁) (implied (took 1 p V₁) _ (votes-heard r d .1) sent-it) c in
+        let v = valid-moment r votes in
+        rw (start-found g (r .sheet .at-most-16) v q p there (adjust-later V₁ v q (c .is-head) (still-open r votes now c)) .reading-is) refl
+
+    -- f + 1 readings, its turn taken, the vote open: q would have voted for itself
+    impossible : ⊥
+    unfolding startsHeld
+    impossible =
+        let v = valid-moment r votes in
+        let turned = turn-took g v q ∙ and-right (took 3 q V₁) _ (and-right (took 1 q V₁) _ (took-all c)) in
+        let few = waits g (r .sheet .at-most-16) v q turned (still-open r votes now c) none in
+        let fx = fixed g v q in
+        let many : countBelow (g .n) (isCorrect g) ≤ startsHeld (recordOf g V₁ q) = rw (fx .n-is) (count-mono (g .n) (isCorrect g) (λ p. isReading (startOf (recordOf g V₁ q) p)) start-held) in
+        let lt = correct-heads r in
+        let eq = fx .f-is in
+        omega arith
+
+  pub has-candidate : (q : ℕ) → CorrectHead g q → (c : ℕ) × (held g votes V₁ q ≡ SomeNumber c)
+  has-candidate q c = go (held g votes V₁ q) refl
+    where
+      go : (m : OptNumber) → held g votes V₁ q ≡ m → (c : ℕ) × (held g votes V₁ q ≡ SomeNumber c)
+      go NoNumber u = absurd (impossible c u)
+      go (SomeNumber w) u = (w, u)
+
+  -- (d) A CORRECT HEAD HOLDS THE START READING OF WHOEVER HAS CONFIRMED
+
+  -- premise 3 at the confirmation
+  pub record Confirmation (c : ℕ) (s : History) : Type 0 where
+    pub event : Event
+    pub past : History
+    pub there : Earlier (event ∷ past) s
+    pub confirms : takes 3 c event ≡ true
+    pub reached-all : {q : ℕ} → CorrectHead g q → received 2 c 0 q past ≡ true
+    pub near : {p q : ℕ} → CorrectHead g p → CorrectHead g q → distance (lastStart past c p) (lastStart past c q) ≤ g .tightness
+
+  pub confirmation : (c : ℕ) {s : History} → Earlier s h → took 3 c s ≡ true → Confirmation c s
+  unfolding premise3 startHeard
+  confirmation c {s} x t =
+      let e = find (takes 3 c) s t in
+      let is : e .event .entry .head ≡ c = eqb-true _ c (and-left (eqb (e .event .entry .head) c) _ (e .holds)) in
+      let three = and-right (eqb (e .event .entry .head) c) _ (e .holds) in
+      let both = implied (eqb (e .event .entry .action) 3) _ (and-left (eqb (e .event .entry .action) 3 ⇒ startHeard g (e .event .entry .head) (e .past)) _ (each-at _ (r .p3) (earlier-trans (e .there) x))) three in
+      let all-got = subst (λ (v : ℕ). correctAll g (λ q. received 2 v 0 q (e .past)) ≡ true) is (and-left (correctAll g (λ q. received 2 (e .event .entry .head) 0 q (e .past))) _ both) in
+      let all-near = subst (λ (v : ℕ). correctAll g (λ p. correctAll g (λ q. leb (distance (lastStart (e .past) v p) (lastStart (e .past) v q)) (g .tightness))) ≡ true) is
+          (and-right (correctAll g (λ q. received 2 (e .event .entry .head) 0 q (e .past))) _ both) in
+      record { event = e .event; past = e .past; there = e .there; confirms = e .holds;
+        reached-all = λ {q} cq. correct-at (λ q. received 2 c 0 q (e .past)) all-got cq;
+        near = λ {p} {q} cp cq. leb-true _ _ (correct-at (λ q. leb (distance (lastStart (e .past) c p) (lastStart (e .past) c q)) (g .tightness))
+          (correct-at (λ p. correctAll g (λ q. leb (distance (lastStart (e .past) c p) (lastStart (e .past) c q)) (g .tightness))) all-near cp) cq) }
+
+  pub start-known : {s : History} → Earlier s h → {q : ℕ} (c : ℕ) → CorrectHead g q → took 3 c s ≡ true → recordOf g s q .vote .closed ≡ false → StartAt g s q c
+  start-known {s} x {q} c cq t o =
+      let k = confirmation c x t in
+      let v = valid-earlier x (r .sheet .valid) in
+      start-found g (r .sheet .at-most-16) v q c (any-grows (receives 2 c 0 q) (earlier-past (k .there)) (k .reached-all cq)) (adjust-later s v q (cq .is-head) o)
+
+  -- what an event does to its head's own vote reading: nothing, or it is the start reading of the candidate voted for
+  pub data OwnReading (s : History) (e : Event) : Type 0 where
+    same-reading : held g votes (e ∷ s) (e .entry .head) ≡ held g votes s (e .entry .head)
+        → voteOf (recordOf g (e ∷ s) (e .entry .head)) (e .entry .head) ≡ voteOf (recordOf g s (e .entry .head)) (e .entry .head) → OwnReading s e
+    new-reading : (c : ℕ) → held g votes (e ∷ s) (e .entry .head) ≡ SomeNumber c → recordOf g (e ∷ s) (e .entry .head) .vote .closed ≡ false
+        → voteOf (recordOf g (e ∷ s) (e .entry .head)) (e .entry .head) ≡ startOf (recordOf g (e ∷ s) (e .entry .head)) c → OwnReading s e
+
+  own-reading-at : {s : History} {e : Event} → Taken g s e → Valid g s → OwnReading s e
+  own-reading-at {s} {e} t v = go (said votes x) refl
+    where
+      x : Speech
+      x = speechOf (baseOf g s e) (t .action)
+      m : HeadRecord
+      m = prepared (baseOf g s e) (t .action)
+      is-open : isClosed (baseOf g s e) (t .action) ≡ false
+      is-open = closed-last _ _ (t .action) ∙ t .is-open
+      own-is : m .own ≡ e .entry .head
+      own-is = fixed g v (e .entry .head) .own-is
+      own-below : m .own < length (m .senders)
+      own-below =
+          let size = prepared-same (baseOf g s e) (t .action) .size ∙ fixed g v (e .entry .head) .size-is in
+          let eq = own-is in let l = t .head-below in let z = r .sheet .at-most-16 in omega arith
+      -- a reading of the record after the speech
+      reads : (f : HeadRecord → OptReading) → voteOf (utter x m .after) (m .own) ≡ f (utter x m .after)
+          → voteOf (recordOf g (e ∷ s) (e .entry .head)) (e .entry .head) ≡ f (recordOf g (e ∷ s) (e .entry .head))
+      reads f u =
+          rw (record-at g e s) (of-effect g (λ y. voteOf (y .after) (e .entry .head) ≡ f (y .after)) t
+          (subst (λ (q : ℕ). voteOf (utter x m .after) q ≡ f (utter x m .after)) own-is u))
+      choice : held g votes (e ∷ s) (e .entry .head) ≡ chosenBy (said votes x) (m .vote) .choice
+      choice = ap (λ (p : Phase). p .choice) (phase-at g votes t)
+      go : (n : OptNumber) → said votes x ≡ n → OwnReading s e
+      go NoNumber u =
+          same-reading (choice ∙ rw u refl)
+          (reads (λ _. voteOf (recordOf g s (e .entry .head)) (e .entry .head)) (own-unspoken x m u ∙ own-kept (baseOf g s e) (t .action) is-open ∙ ap (voteOf (recordOf g s (e .entry .head))) own-is))
+      go (SomeNumber c) u =
+          new-reading c (choice ∙ rw u refl)
+          (ap (λ (p : Phase). p .closed) (phase-at g votes t) ∙ chosen-closed (said votes x) (m .vote) ∙ speaks votes (spoken (baseOf g s e) (t .action) is-open) u .stays-open)
+          (reads (λ y. startOf y c) (own-spoken x m c own-below u))
+
+  pub own-reading : {s : History} → Valid g s → Earlier s h → (q c : ℕ) → CorrectHead g q → held g votes s q ≡ SomeNumber c → isReading (voteOf (recordOf g s q) q) ≡ true
+  unfolding recordOf fresh
+  own-reading start x q c = λ cq t. none-is-some t
+  own-reading (more {e = e} {s = s} t v) x q c =
+      by-head (λ q. CorrectHead g q → held g votes (e ∷ s) q ≡ SomeNumber c → isReading (voteOf (recordOf g (e ∷ s) q) q) ≡ true) e q
+      (λ cq u. go cq u (own-reading-at t v) (own-reading v (earlier-past x) (e .entry .head) c cq))
+      (λ d cq u. rw (record-other g e s q d) (own-reading v (earlier-past x) q c cq (sym (held-other g votes e s q d) ∙ u)))
+    where
+      go : CorrectHead g (e .entry .head) → held g votes (e ∷ s) (e .entry .head) ≡ SomeNumber c → OwnReading s e
+          → (held g votes s (e .entry .head) ≡ SomeNumber c → isReading (voteOf (recordOf g s (e .entry .head)) (e .entry .head)) ≡ true)
+          → isReading (voteOf (recordOf g (e ∷ s) (e .entry .head)) (e .entry .head)) ≡ true
+      go cq u (same-reading hs vs) ih = rw vs (ih (sym hs ∙ u))
+      go cq u (new-reading w hn o vn) ih =
+          let known = start-known x w cq (candidate-confirmed g (r .sheet .at-most-16) turn-confirmed (more t v) (e .entry .head) w hn) o in
+          rw (vn, known .reading-is) refl

@@ -1,0 +1,377 @@
+-- Record ranges are kept by every step and every run, so a replay never meets cause 10.
+-- The test of cause 10 is turned into facts. A fresh record has them, and an action that is not closed keeps them, in
+-- both parts of its effect. What is kept of a frame in range is in range, and a mark is set only after those that it
+-- asks for. Who speaks names itself or whom the frame named, and each choice outranks the last one, so that with k frames
+-- sent the choice is at most n − k. An adjustment is carried, or it is a median of readings in range.
+-- Main results: `in-range`, `range-test`, `median-in`, `effect-in-range`, `take-in-range`, `step-in-range`,
+-- `fresh-in-range`, `run-in-range`, `frames-in-range`, `votes-below`.
+use mathlib.Core.Path.{_≡_, refl, sym, _∙_, subst}
+use mathlib.Core.Bool.{Bool, true, false, cond, not, _&&_, _||_}
+use mathlib.Core.List.{List, [], _∷_}
+use Prim.Native.Nat.{ℕ, zero, suc, _+_, _-_, _*_, _/_, _^_, _≤_, _<_}
+use native.Mathlib.Omega.{arith}
+use lib.Dec.{ltb, leb, eqb, lit<}
+use lib.ListN.{length, getD, set, replicate, getD-replicate}
+use borrow.Author.Tests.{eqb-true, eq-eqb, ltb-true, ltb-false, lt-ltb, le-ltb, leb-true, le-leb}
+use Rattle.protocol.specs.Base.{_⇒_}
+use Rattle.protocol.specs.Types.{Reading, OptReading, NoReading, SomeReading, OptNumber, NoNumber, SomeNumber, Sender, HeadRecord, Setting, Input, Stepped, Frame, NoFrame, Start, Vote, Adjust}
+use Rattle.protocol.specs.Types.{Action, Look, StartSent, StartDelivered, StartConfirmed, VoteTurn, VoteDelivered, VoteClose, AdjustTurn, AdjustDelivered, AdjustClose}
+use Rattle.protocol.specs.Words.{headsFit}
+use Rattle.protocol.specs.Record.{isReading, isNumber, readingOr0, numberOr0, reading, noSender, keptOf, startOf, voteOf, fresh, readingInRange, serialInRange, senderInRange, senderIsNone, sentInRange, phaseInRange, marksInRange, recordInRange}
+use Rattle.protocol.specs.Median.{insert, inOrder, median}
+use Rattle.protocol.specs.Step.{withVoteReading, withLast, accepted, vote, adjust, prepend, voteReadings, outranks, effect, isClosed, takeAction, actionsOf, actionOf, inputFits, step}
+use Rattle.protocol.specs.Run.{Event, History, recordOf, isDeliveredBy, orElse, frameSent, carriedReading}
+use Rattle.protocol.proofs.Tests.{absurd-bool, cases, cond-elim, not-true, not-false, and-left, and-right, and-both, or-left, or-right, or-cases, implied, all-below, below-all}
+use Rattle.protocol.proofs.Effects.{Kind, votes, adjusts, phaseOf, takenOf, Delivery, noDelivery, deliveryIn, serialOf, named, ignored, keptAfter, prepared, Speech, utter, effect-split, Why, itself, told, Speaks, Source, computed, passed-on, Spoken, says-nothing, says-start, says-vote, says-adjust, no-number, spoken, none-is-some, closed-last}
+use Rattle.protocol.proofs.Valid.{baseOf, Valid, start, more, heads-fit, record-at, record-other, by-head, fixed}
+
+-- THE RANGES AS FACTS; a reading or a number that is none counts as 0, which is in every range
+
+-- what is kept by one sender
+pub record SenderInRange (s : Sender) : Type 0 where
+  pub start : readingOr0 (s .start) < 2 ^ 28
+  pub vote : readingOr0 (s .vote) < 2 ^ 28
+  pub serial : (k : Kind) → numberOr0 (takenOf k s) ≤ 15
+
+-- what is kept by sender p of n
+pub record KeptInRange (n p : ℕ) (s : Sender) : Type 0 where
+  pub below : p < n → SenderInRange s
+  pub above : n ≤ p → p < 16 → s ≡ noSender
+
+-- a phase's choice and the number of frames sent in it
+abbrev pub SentInRange : ℕ → OptNumber → ℕ → Type 0
+SentInRange n NoNumber sent = sent ≡ 0
+SentInRange n (SomeNumber v) sent = (1 ≤ sent) × (sent + v ≤ n)
+
+-- the marks, by what each asks for
+abbrev pub MarksInRange : HeadRecord → Type 0
+MarksInRange r =
+    record {
+      confirmed : r .confirmed ≡ true → r .started ≡ true;
+      turn : r .vote .turn ≡ true → r .confirmed ≡ true;
+      adjusting : (r .adjust .turn || r .adjust .closed) ≡ true → r .vote .closed ≡ true;
+    }
+
+pub record InRange (r : HeadRecord) : Type 0 where
+  pub heads : (2 ≤ r .n) × (r .n ≤ 16) × (2 * r .f + 1 ≤ r .n)
+  pub own : r .own < r .n
+  pub last : r .last .0 < 2 ^ 28
+  pub adjustment : r .adjustment .0 < 2 ^ 28
+  pub unadjusted : r .adjust .choice ≡ NoNumber → r .adjustment .0 ≡ 0
+  pub phase : (k : Kind) → SentInRange (r .n) (phaseOf k r .choice) (phaseOf k r .sent)
+  pub marks : MarksInRange r
+  pub kept : (p : ℕ) → KeptInRange (r .n) p (keptOf r p)
+
+-- what a frame carries, an action with the frame that it delivers, and an answer
+pub record FrameInRange (n : ℕ) (x : Frame) : Type 0 where
+  pub serial : serialOf x ≤ 15
+  pub choice : numberOr0 (named x) < n
+  pub reading : readingOr0 (carriedReading x) < 2 ^ 28
+
+pub record DeliveryInRange (n : ℕ) (d : Delivery) : Type 0 where
+  pub sender : d .sender < n
+  pub frame : FrameInRange n (d .frame)
+
+abbrev pub ActionInRange : ℕ → Action → Type 0
+ActionInRange n a = DeliveryInRange n (deliveryIn a)
+
+abbrev pub AnswerInRange : ℕ → Stepped → Type 0
+AnswerInRange n t = InRange (t .after) × FrameInRange n (t .frame)
+
+for-both : (P : Kind → Type 0) → P votes → P adjusts → (k : Kind) → P k
+for-both P v a votes = v
+for-both P v a adjusts = a
+
+-- THE TEST OF CAUSE 10 SAYS THE SAME
+
+-- the parts of a test that holds
+ruleset parts = (and-left, and-right)
+
+reading-test : (x : OptReading) → readingInRange x ≡ ltb (readingOr0 x) (2 ^ 28)
+reading-test NoReading = refl
+reading-test (SomeReading x) = refl
+
+serial-test : (m : OptNumber) → serialInRange m ≡ leb (numberOr0 m) 15
+serial-test NoNumber = refl
+serial-test (SomeNumber k) = refl
+
+no-reading : (x : OptReading) → isReading x ≡ false → x ≡ NoReading
+no-reading NoReading e = refl
+no-reading (SomeReading x) e = absurd-bool refl e
+
+sender-in-range : {s : Sender} → senderInRange s ≡ true → SenderInRange s
+unfolding senderInRange
+sender-in-range e =
+    let t = simp (reading-test, serial-test) at e in
+    record { start = ltb-true _ _ (search parts); vote = ltb-true _ _ (search parts); serial = for-both _ (leb-true _ _ (search parts)) (leb-true _ _ (search parts)) }
+
+sender-test : {s : Sender} → SenderInRange s → senderInRange s ≡ true
+unfolding senderInRange
+sender-test h = simp (reading-test, serial-test, lt-ltb _ _ (h .start), lt-ltb _ _ (h .vote), le-leb _ _ (h .serial votes), le-leb _ _ (h .serial adjusts))
+
+nothing-kept : (s : Sender) → senderIsNone s ≡ true → s ≡ noSender
+unfolding senderIsNone
+nothing-kept s e =
+    let a = no-reading (s .start) (not-true (search parts)) in
+    let b = no-reading (s .vote) (not-true (search parts)) in
+    let c = no-number (s .voted) (not-true (search parts)) in
+    let d = no-number (s .adjusted) (not-true (search parts)) in
+    λ i. record { start = a i; vote = b i; voted = c i; adjusted = d i }
+
+sent-in-range : (n : ℕ) (m : OptNumber) (sent : ℕ) → sentInRange n m sent ≡ true → SentInRange n m sent
+sent-in-range n NoNumber sent e = eqb-true sent 0 e
+sent-in-range n (SomeNumber v) sent e = (leb-true _ _ (search parts), leb-true _ _ (search parts))
+
+sent-test : (n : ℕ) (m : OptNumber) (sent : ℕ) → SentInRange n m sent → sentInRange n m sent ≡ true
+sent-test n NoNumber sent h = eq-eqb sent 0 h
+sent-test n (SomeNumber v) sent h = and-both (lt-ltb v n (omega arith)) (and-both (le-leb _ _ (h .0)) (le-leb _ _ (h .1)))
+
+implication-test : (a b : Bool) → (a ≡ true → b ≡ true) → (a ⇒ b) ≡ true
+implication-test true b f = f refl
+implication-test false b f = refl
+
+adjustment-test : (m : OptNumber) (x : ℕ) → (m ≡ NoNumber → x ≡ 0) → (isNumber m || eqb x 0) ≡ true
+adjustment-test NoNumber x f = eq-eqb x 0 (f refl)
+adjustment-test (SomeNumber v) x f = refl
+
+abbrev keptTest : HeadRecord → ℕ → Bool
+keptTest r p = cond (ltb p (r .n)) (senderInRange (keptOf r p)) (senderIsNone (keptOf r p))
+
+kept-test : {r : HeadRecord} → InRange r → (p : ℕ) → p < 16 → keptTest r p ≡ true
+unfolding senderIsNone
+kept-test {r} h p b = cases (ltb p (r .n)) (λ t. rw t (sender-test (h .kept p .below (ltb-true _ _ t)))) (λ t. rw (t, h .kept p .above (ltb-false _ _ t) b) refl)
+
+pub in-range : {r : HeadRecord} → recordInRange r ≡ true → InRange r
+unfolding recordInRange phaseInRange marksInRange
+in-range {r} e =
+    let heads = heads-fit (r .n) (r .f) (search parts) in
+    let tested = all-below 16 (keptTest r) (search parts depth 9) in
+    record {
+      heads = heads;
+      own = ltb-true _ _ (search parts);
+      last = ltb-true _ _ (search parts);
+      adjustment = ltb-true _ _ (search parts);
+      unadjusted = λ u. or-cases (isNumber (r .adjust .choice)) (eqb (r .adjustment .0) 0) (search parts) (λ t. absurd-bool t (rw u refl)) (eqb-true _ 0);
+      phase = for-both _ (sent-in-range (r .n) (r .vote .choice) (r .vote .sent) (search parts depth 9)) (sent-in-range (r .n) (r .adjust .choice) (r .adjust .sent) (search parts depth 9));
+      marks = record { confirmed = implied (r .confirmed) _ (search parts depth 9); turn = implied (r .vote .turn) _ (search parts depth 10); adjusting = implied (r .adjust .turn || r .adjust .closed) _ (search parts depth 10) };
+      kept = λ p. record { below = λ b. sender-in-range (rw (lt-ltb p (r .n) b) at (tested p (omega arith))); above = λ a b. nothing-kept _ (rw (le-ltb p (r .n) a) at (tested p b)) };
+    }
+
+pub range-test : {r : HeadRecord} → InRange r → recordInRange r ≡ true
+unfolding recordInRange phaseInRange marksInRange
+range-test {r} h =
+    let heads : headsFit (r .n) (r .f) ≡ true = and-both (le-leb _ _ (h .heads .0)) (and-both (le-leb _ _ (h .heads .1)) (le-leb _ _ (h .heads .2))) in
+    let phase : (k : Kind) → phaseInRange (r .n) (phaseOf k r) ≡ true = λ k. sent-test (r .n) (phaseOf k r .choice) (phaseOf k r .sent) (h .phase k) in
+    let marks : marksInRange r ≡ true = and-both (implication-test _ _ (h .marks .confirmed)) (and-both (implication-test _ _ (h .marks .turn)) (implication-test _ _ (h .marks .adjusting))) in
+    and-both heads (and-both (lt-ltb _ _ (h .own)) (and-both (lt-ltb _ _ (h .last)) (and-both (lt-ltb _ _ (h .adjustment)) (and-both (adjustment-test _ _ (h .unadjusted))
+    (and-both (phase votes) (and-both (phase adjusts) (and-both marks (below-all 16 (keptTest r) (kept-test h)))))))))
+
+-- THE MEDIAN of numbers below a bound is below it
+
+-- P holds of every element
+abbrev pub Every : {A : Type 0} → (A → Type 0) → List A → Type 0
+Every P [] = Unit {0}
+Every P (x ∷ l) = P x × Every P l
+
+every-at : {A : Type 0} (P : A → Type 0) (l : List A) (i : ℕ) {d : A} → P d → Every P l → P (getD l i d)
+every-at P [] i h e = h
+every-at P (x ∷ l) zero h e = e .0
+every-at P (x ∷ l) (suc i) h e = every-at P l i h (e .1)
+
+every-insert : (P : ℕ → Type 0) (x : ℕ) (l : List ℕ) → P x → Every P l → Every P (insert x l)
+every-insert P x [] h e = (h, e)
+every-insert P x (y ∷ l) h e = cond-elim (Every P) (leb x y) (λ _. (h, e)) (λ _. (e .0, every-insert P x l h (e .1)))
+
+every-in-order : (P : ℕ → Type 0) (l : List ℕ) → Every P l → Every P (inOrder l)
+every-in-order P [] e = e
+every-in-order P (x ∷ l) e = every-insert P x (inOrder l) (e .0) (every-in-order P l (e .1))
+
+pub median-in : (b : ℕ) (l : List ℕ) → 0 < b → Every (λ x. x < b) l → median l < b
+unfolding median
+median-in b l h e = every-at (λ x. x < b) (inOrder l) ((length l - 1) / 2) h (every-in-order (λ x. x < b) l e)
+
+every-prepend : (P : ℕ → Type 0) (x : OptReading) (l : List ℕ) → P (readingOr0 x) → Every P l → Every P (prepend x l)
+every-prepend P NoReading l h e = e
+every-prepend P (SomeReading x) l h e = (h, e)
+
+vote-readings-below : {r : HeadRecord} → InRange r → (p : ℕ) → p ≤ r .n → Every (λ x. x < 2 ^ 28) (voteReadings r p)
+unfolding voteReadings
+vote-readings-below h zero b = tt
+vote-readings-below {r} h (suc p) b = every-prepend (λ x. x < 2 ^ 28) (voteOf r p) (voteReadings r p) (h .kept p .below b .vote) (vote-readings-below h p (omega arith))
+
+-- AN EFFECT: first what is kept of the action
+
+-- what holds of every place, and of the element written, holds of every place after the write
+set-holds : (P : ℕ → Sender → Type 0) (l : List Sender) (p : ℕ) (s : Sender) → P p s → ((q : ℕ) → P q (getD l q noSender)) → (q : ℕ) → P q (getD (set l p s) q noSender)
+set-holds P [] p s h k q = k q
+set-holds P (x ∷ l) zero s h k zero = h
+set-holds P (x ∷ l) zero s h k (suc q) = k (suc q)
+set-holds P (x ∷ l) (suc p) s h k zero = k zero
+set-holds P (x ∷ l) (suc p) s h k (suc q) = set-holds (λ j. P (suc j)) l p s h (λ j. k (suc j)) q
+
+set-in-range : {n : ℕ} (l : List Sender) (p : ℕ) (s : Sender) → p < n → SenderInRange s → ((q : ℕ) → KeptInRange n q (getD l q noSender))
+    → (q : ℕ) → KeptInRange n q (getD (set l p s) q noSender)
+set-in-range {n} l p s b h k = set-holds (KeptInRange n) l p s (record { below = λ _. h; above = λ a _. absurd (omega arith) }) k
+
+kept-after-in-range : {r : HeadRecord} (p : ℕ) (x : Frame) → InRange r → p < r .n → FrameInRange (r .n) x → SenderInRange (keptAfter r p x)
+kept-after-in-range p NoFrame h b f = h .kept p .below b
+kept-after-in-range p Start h b f = let s = h .kept p .below b in record { start = h .last; vote = s .vote; serial = for-both _ (s .serial votes) (s .serial adjusts) }
+kept-after-in-range p (Vote j c x) h b f = let s = h .kept p .below b in record { start = s .start; vote = f .reading; serial = for-both _ (f .serial) (s .serial adjusts) }
+kept-after-in-range p (Adjust j c x) h b f = let s = h .kept p .below b in record { start = s .start; vote = s .vote; serial = for-both _ (s .serial votes) (f .serial) }
+
+-- an action that is not closed finds the marks that its own asks for
+prepared-marks : (r : HeadRecord) (a : Action) → isClosed r a ≡ false → MarksInRange r → MarksInRange (prepared r a)
+unfolding isClosed
+prepared-marks r Look o h = h
+prepared-marks r StartSent o h = record { confirmed = λ _. refl; turn = h .turn; adjusting = h .adjusting }
+prepared-marks r (StartDelivered p) o h = h
+prepared-marks r StartConfirmed o h = record { confirmed = λ _. not-false (or-left (not (r .started)) _ o); turn = λ _. refl; adjusting = h .adjusting }
+prepared-marks r VoteTurn o h = record { confirmed = h .confirmed; turn = λ _. not-false (or-left (not (r .confirmed)) _ o); adjusting = h .adjusting }
+prepared-marks r (VoteDelivered p k c x) o h = h
+prepared-marks r VoteClose o h = record { confirmed = h .confirmed; turn = h .turn; adjusting = λ _. refl }
+prepared-marks r AdjustTurn o h = record { confirmed = h .confirmed; turn = h .turn; adjusting = λ _. not-false (or-left (not (r .vote .closed)) _ o) }
+prepared-marks r (AdjustDelivered p k c x) o h = h
+prepared-marks r AdjustClose o h = record { confirmed = h .confirmed; turn = h .turn; adjusting = λ _. not-false (or-left (not (r .vote .closed)) _ o) }
+
+-- one more frame for a choice that outranks the last
+chosen-in-range : (n c : ℕ) (m : OptNumber) (sent : ℕ) → c < n → outranks c m ≡ true → SentInRange n m sent → SentInRange n (SomeNumber c) (sent + 1)
+chosen-in-range n c NoNumber sent b o h = omega arith
+chosen-in-range n c (SomeNumber v) sent b o h = let l = ltb-true c v o in omega arith
+
+module _ {r : HeadRecord} (a : Action) (h : InRange r) (i : ActionInRange (r .n) a) (o : isClosed r a ≡ false) where
+  prepared-kept : (q : ℕ) → KeptInRange (r .n) q (keptOf (prepared r a) q)
+  prepared-kept =
+      cond-elim (λ (l : List Sender). (q : ℕ) → KeptInRange (r .n) q (getD l q noSender)) (ignored r (deliveryIn a .sender) (deliveryIn a .frame)) (λ _. h .kept)
+      (λ _. set-in-range (r .senders) (deliveryIn a .sender) _ (i .sender) (kept-after-in-range _ _ h (i .sender) (i .frame)) (h .kept))
+
+  prepared-in-range : InRange (prepared r a)
+  prepared-in-range =
+      record { heads = h .heads; own = h .own; last = h .last; adjustment = h .adjustment; unadjusted = h .unadjusted; phase = for-both _ (h .phase votes) (h .phase adjusts); marks = prepared-marks r a o (h .marks); kept = prepared-kept }
+
+  -- then what the head says
+  named-below : {k : Kind} {c : ℕ} → Why k r a c → c < r .n
+  named-below (itself e _ _) = subst (λ (v : ℕ). v < r .n) (sym e) (h .own)
+  named-below (told _ e) = subst (λ (v : OptNumber). numberOr0 v < r .n) e (i .frame .choice)
+
+  spoken-in-range : (k : Kind) {c : ℕ} → Speaks k r a c → SentInRange (r .n) (SomeNumber c) (phaseOf k r .sent + 1)
+  spoken-in-range k {c} s = chosen-in-range (r .n) c (phaseOf k r .choice) (phaseOf k r .sent) (named-below (s .why)) (s .higher) (h .phase k)
+
+  source-below : {x : Reading} → Source r a x → x .0 < 2 ^ 28
+  source-below (computed _ e) = subst (λ (y : Reading). y .0 < 2 ^ 28) (sym e) (median-in (2 ^ 28) _ (lit< tt) (vote-readings-below prepared-in-range (r .n) (omega arith)))
+  source-below (passed-on _ e) = subst (λ (y : OptReading). readingOr0 y < 2 ^ 28) e (i .frame .reading)
+
+  utter-in-range : {x : Speech} → Spoken r a x → AnswerInRange (r .n) (utter x (prepared r a))
+  unfolding vote adjust
+  utter-in-range says-nothing = (prepared-in-range, omega arith)
+  utter-in-range (says-start e) = (prepared-in-range, omega arith)
+  utter-in-range (says-vote {c = c} s) =
+      let m = prepared-in-range in
+      let new = spoken-in-range votes s in
+      let own = m .kept (r .own) .below (h .own) in
+      let start = m .kept c .below (omega arith) .start in
+      let mine : SenderInRange (withVoteReading (keptOf (prepared r a) (r .own)) (startOf (prepared r a) c)) = record { start = own .start; vote = start; serial = for-both _ (own .serial votes) (own .serial adjusts) } in
+      let kept = set-in-range (prepared r a .senders) (r .own) _ (h .own) mine (m .kept) in
+      (record { heads = m .heads; own = m .own; last = m .last; adjustment = m .adjustment; unadjusted = m .unadjusted; phase = for-both _ new (m .phase adjusts); marks = m .marks; kept = kept }, omega arith)
+  utter-in-range (says-adjust s t) =
+      let m = prepared-in-range in
+      let new = spoken-in-range adjusts s in
+      let below = source-below t in
+      (record { heads = m .heads; own = m .own; last = m .last; adjustment = below; unadjusted = λ e. none-is-some (sym e); phase = for-both _ (m .phase votes) new; marks = m .marks; kept = m .kept }, omega arith)
+
+  pub effect-in-range : AnswerInRange (r .n) (effect r a)
+  effect-in-range = subst (AnswerInRange (r .n)) (sym (effect-split r a)) (utter-in-range (spoken r a o))
+
+-- A STEP
+
+last-in-range : {r : HeadRecord} {x : Reading} → InRange r → x .0 < 2 ^ 28 → InRange (withLast r x)
+last-in-range h b =
+    record { heads = h .heads; own = h .own; last = b; adjustment = h .adjustment; unadjusted = h .unadjusted; phase = for-both _ (h .phase votes) (h .phase adjusts); marks = h .marks; kept = h .kept }
+
+pub take-in-range : {r : HeadRecord} (x : Reading) (sent : Bool) (a : Action) → InRange r → x .0 < 2 ^ 28 → ActionInRange (r .n) a → AnswerInRange (r .n) (takeAction r x sent a)
+unfolding takeAction
+take-in-range {r} x sent a h b i =
+    let refusal : InRange r × FrameInRange (r .n) NoFrame = (h, omega arith) in
+    cond-elim (AnswerInRange (r .n)) (ltb (x .0) (r .last .0)) (λ _. refusal)
+    (λ _. cond-elim (AnswerInRange (r .n)) (not sent || isClosed r a) (λ _. refusal)
+    (λ o. effect-in-range a (last-in-range h b) i (closed-last r x a ∙ or-right (not sent) _ o)))
+
+-- what cause 6 lets pass
+input-in-range : (n : ℕ) (i : Input) → inputFits n i ≡ true → (i .reading < 2 ^ 28) × ActionInRange n (actionOf i)
+unfolding inputFits actionOf
+input-in-range n i e =
+    let sender = ltb-true (i .sender) n (search parts) in
+    let serial = leb-true (i .serial) 15 (search parts) in
+    let choice = ltb-true (i .choice) n (search parts depth 8) in
+    let carried = ltb-true (i .carried) (2 ^ 28) (search parts depth 8) in
+    let plain : DeliveryInRange n noDelivery = omega arith in
+    let or-none : readingOr0 (cond (i .none) NoReading (SomeReading (reading (i .carried)))) < 2 ^ 28 = cond-elim (λ (x : OptReading). readingOr0 x < 2 ^ 28) (i .none) (λ _. omega arith) (λ _. carried) in
+    let each : Every (ActionInRange n) (actionsOf i) = (plain, (plain, (omega arith, (plain, (plain, (omega arith, (plain, (plain, (omega arith, (plain, tt)))))))))) in
+    (ltb-true (i .reading) (2 ^ 28) (search parts), every-at (ActionInRange n) (actionsOf i) (i .action) plain each)
+
+pub step-in-range : (r : HeadRecord) (i : Input) → recordInRange r ≡ true → recordInRange (step r i .after) ≡ true
+unfolding step
+step-in-range r i e =
+    range-test (cond-elim (λ (t : Stepped). InRange (t .after)) (not (recordInRange r)) (λ _. in-range e)
+    (λ _. cond-elim (λ (t : Stepped). InRange (t .after)) (not (inputFits (r .n) i)) (λ _. in-range e)
+    (λ f. let x = input-in-range (r .n) i (not-false f) in take-in-range (reading (i .reading)) true (actionOf i) (in-range e) (x .0) (x .1) .0)))
+
+-- A RUN
+
+none-in-range : (n p : ℕ) → n ≤ 16 → KeptInRange n p (getD (replicate 16 noSender) p noSender)
+none-in-range n p b =
+    let none : SenderInRange noSender = record { start = lit< tt; vote = lit< tt; serial = for-both _ (omega arith) (omega arith) } in
+    record { below = λ l. subst SenderInRange (sym (getD-replicate 16 p noSender noSender (omega arith))) none; above = λ _ l. getD-replicate 16 p noSender noSender l }
+
+fresh-facts : (n f : ℕ) {q : ℕ} → headsFit n f ≡ true → q < n → InRange (fresh n f q)
+unfolding fresh
+fresh-facts n f e b =
+    let heads = heads-fit n f e in
+    record { heads = heads; own = b; last = lit< tt; adjustment = lit< tt; unadjusted = λ _. refl; phase = for-both _ refl refl; marks = record { confirmed = λ t. t; turn = λ t. t; adjusting = λ t. t }; kept = λ p. none-in-range n p (heads .1) }
+
+pub fresh-in-range : (n f q : ℕ) → headsFit n f ≡ true → q < n → recordInRange (fresh n f q) ≡ true
+fresh-in-range n f q e b = range-test (fresh-facts n f e b)
+
+or-else-in-range : {n : ℕ} (x y : Frame) → FrameInRange n x → FrameInRange n y → FrameInRange n (orElse x y)
+or-else-in-range NoFrame y a b = b
+or-else-in-range Start y a b = a
+or-else-in-range (Vote j c x) y a b = a
+or-else-in-range (Adjust j c x) y a b = a
+
+sent-below : (n : ℕ) (m : OptNumber) (sent : ℕ) → SentInRange n m sent → sent ≤ n
+sent-below n NoNumber sent h = omega arith
+sent-below n (SomeNumber v) sent h = omega arith
+
+-- both together, since a record is in range by the frames that reach it
+record RunInRange (g : Setting) (h : History) : Type 0 where
+  records : (q : ℕ) → q < g .n → InRange (recordOf g h q)
+  frames : (a p k : ℕ) → FrameInRange (g .n) (frameSent h a p k)
+
+module _ {g : Setting} (fit : headsFit (g .n) (g .f) ≡ true) where
+  all-in-range : {h : History} → Valid g h → RunInRange g h
+  unfolding recordOf frameSent
+  all-in-range start = record { records = λ q. fresh-facts (g .n) (g .f) fit; frames = λ a p k. let x = heads-fit (g .n) (g .f) fit in omega arith }
+  all-in-range (more {e = e} {s = s} t v) = grow (all-in-range v)
+    where
+      grow : RunInRange g s → RunInRange g (e ∷ s)
+      grow h =
+          let n-is = fixed g v (e .entry .head) .n-is in
+          let i : ActionInRange (g .n) (t .action) = subst (DeliveryInRange (g .n)) (sym (t .asked .delivery-is)) (record { sender = t .sender-below; frame = h .frames _ _ _ }) in
+          let done = effect-in-range (t .action) (last-in-range (h .records _ (t .head-below)) (t .reading-below)) (subst (λ (n : ℕ). ActionInRange n (t .action)) (sym n-is) i) (closed-last _ _ (t .action) ∙ t .is-open) in
+          let x : AnswerInRange (g .n) (accepted (e .after) (e .frame)) = subst (AnswerInRange (g .n)) (sym (t .result)) (subst (λ (n : ℕ). AnswerInRange n (effect (baseOf g s e) (t .action))) n-is done) in
+          record {
+            records = λ q. by-head (λ q. q < g .n → InRange (recordOf g (e ∷ s) q)) e q (λ _. rw (record-at g e s) (x .0)) (λ d b. rw (record-other g e s q d) (h .records q b));
+            frames = λ a p k. or-else-in-range (frameSent s a p k) _ (h .frames a p k)
+                (cond-elim (FrameInRange (g .n)) (eqb (e .entry .head) p && isDeliveredBy a k (e .frame)) (λ _. x .1) (λ _. let l = t .head-below in omega arith));
+          }
+
+  pub run-in-range : {h : History} → Valid g h → (q : ℕ) → q < g .n → InRange (recordOf g h q)
+  run-in-range v = all-in-range v .records
+
+  pub frames-in-range : {h : History} → Valid g h → (a p k : ℕ) → FrameInRange (g .n) (frameSent h a p k)
+  frames-in-range v = all-in-range v .frames
+
+  -- a head sends at most n votes and n adjusts
+  pub votes-below : (k : Kind) {h : History} → Valid g h → (q : ℕ) → q < g .n → phaseOf k (recordOf g h q) .sent ≤ g .n
+  votes-below k {h} v q b =
+      let r = recordOf g h q in
+      subst (λ (n : ℕ). phaseOf k r .sent ≤ n) (fixed g v q .n-is) (sent-below (r .n) (phaseOf k r .choice) (phaseOf k r .sent) (run-in-range v q b .phase k))
