@@ -5,31 +5,81 @@ use mathlib.Core.Path.{_≡_, refl, sym, _∙_, ap, subst}
 use mathlib.Core.Bool.{Bool, true, false, cond, not, _&&_, _||_}
 use mathlib.Core.List.{List, [], _∷_}
 use Prim.Native.Nat.{ℕ, zero, suc, _+_, _-_, _≤_, _<_}
+use native.Mathlib.Nat.{not-suc-le-zero}
 use native.Mathlib.Omega.{arith}
 use lib.Dec.{ltb, leb, eqb}
 use lib.ListN.{length, getD, set}
-use borrow.Author.Tests.{eqb-true, eqb-false, eq-eqb, ne-eqb, leb-true}
+use borrow.Author.Tests.{eqb-true, eqb-false, eq-eqb, ne-eqb, leb-true, le-leb}
 use Rattle.protocol.specs.Base.{_⇒_, any, all, countBelow, distance}
 use Rattle.protocol.specs.Types.{Reading, OptReading, NoReading, SomeReading, OptNumber, NoNumber, SomeNumber, Sender, Phase, HeadRecord, Setting, Stepped, Frame, NoFrame, Start, Vote, Adjust}
 use Rattle.protocol.specs.Types.{Action, Look, StartSent, StartDelivered, StartConfirmed, VoteTurn, VoteDelivered, VoteClose, AdjustTurn, AdjustDelivered, AdjustClose}
 use Rattle.protocol.specs.Words.{isCorrect}
 use Rattle.protocol.specs.Record.{isReading, isNumber, keptOf, startOf, voteOf, fresh}
-use Rattle.protocol.specs.Step.{startsHeld, isClosed}
+use Rattle.protocol.specs.Step.{adjust, prepend, startsHeld, voteReadings, mayAdjust, isClosed}
 use Rattle.protocol.specs.Run.{Event, History, recordOf, frameSent}
 use Rattle.protocol.specs.Premises.{takes, receives, took, received, each, correctAll, correctTakes, startHeard, premise3, lastStart}
 use Rattle.protocol.specs.Claim.{CorrectHead}
 use Rattle.protocol.proofs.Tests.{absurd-bool, cases, cond-elim, and-left, and-right, and-both, or-first, or-second, or-left, or-right, or-cases, implied, not-true, not-false, eqb-same, count-mono}
 use Rattle.protocol.proofs.Moments.{Earlier, now, later, earlier-trans, earlier-past, any-grows, any-map, find, Found, each-at}
-use Rattle.protocol.proofs.Effects.{Kind, votes, adjusts, phaseOf, delivery, closing, prepared, Speech, nothing, voting, adjusting, utter, speechOf, said, chosenBy, chosen-closed, spoken, speaks, closed-last, prepared-same, none-is-some, same-number, own-kept, own-unspoken, own-spoken}
+use Rattle.protocol.proofs.Effects.{Kind, votes, adjusts, phaseOf, delivery, closing, number, prepared, Speech, nothing, voting, adjusting, utter, speechOf, said, chosenBy, chosen-closed, spoken, speaks, closed-last, prepared-same, none-is-some, same-number, own-kept, own-unspoken, own-spoken}
 use Rattle.protocol.proofs.Valid.{baseOf, Valid, start, more, valid-past, valid-taken, valid-earlier, Taken, Sheet, record-at, record-other, by-head, of-effect, fixed, closed-took, confirmed-took, turn-took}
-use Rattle.protocol.proofs.Phases.{held, sent, isOver, names, held-other, Origin, own, heard, Turn, quiet, spoke, Spoke, turn, phase-at, delivered-choice, held-sent}
+use Rattle.protocol.proofs.Ranges.{run-in-range}
+use Rattle.protocol.proofs.Phases.{held, sent, isOver, names, held-other, Origin, own, heard, Turn, quiet, spoke, Spoke, turn, phase-at, delivered-choice, held-sent, AtMost, falls-later}
 use Rattle.protocol.proofs.Starts.{StartAt, start-found, waits, candidate-confirmed}
-use Rattle.protocol.proofs.Rounds.{Round, correct-at, took-correct, correct-heads, some-correct, moment, moment-earlier, valid-moment, still-open, votes-heard, reaches}
+use Rattle.protocol.proofs.Rounds.{Round, correct-at, took-correct, correct-heads, some-correct, moment, moment-earlier, valid-moment, still-open, isClose, votes-heard, adjusts-heard, reaches, chosen, choice-stays}
 
-module _ {g : Setting} {h : History} (r : Round g h)
-    (turn-confirmed : (s : History) → Valid g s → (q : ℕ) → q < g .n → recordOf g s q .vote .turn ≡ true → recordOf g s q .confirmed ≡ true)
-    (adjust-later : (s : History) → Valid g s → (q : ℕ) → q < g .n → recordOf g s q .vote .closed ≡ false → recordOf g s q .adjust .closed ≡ false)
-    where
+-- AN ADJUST TURN GIVES AN ADJUSTER
+
+one-reading : (x : OptReading) (l : List ℕ) → isReading x ≡ true → 1 ≤ length (prepend x l)
+one-reading NoReading l e = absurd-bool e refl
+one-reading (SomeReading x) l e = omega arith
+
+more-readings : (x : OptReading) (l : List ℕ) → 1 ≤ length l → 1 ≤ length (prepend x l)
+more-readings NoReading l e = e
+more-readings (SomeReading x) l e = omega arith
+
+some-reading : (r : HeadRecord) (n q : ℕ) → q < n → isReading (voteOf r q) ≡ true → 1 ≤ length (voteReadings r n)
+unfolding voteReadings
+some-reading r zero q h e = absurd (not-suc-le-zero h)
+some-reading r (suc n) q h e =
+    cases (eqb q n) (λ t. one-reading (voteOf r n) (voteReadings r n) (subst (λ (z : ℕ). isReading (voteOf r z) ≡ true) (eqb-true q n t) e))
+    (λ t. more-readings (voteOf r n) (voteReadings r n) (some-reading r n q (let d = eqb-false q n t in omega arith) e))
+
+-- only action 7 has the number 7
+is-adjust-turn : (a : Action) → number a ≡ 7 → a ≡ AdjustTurn
+is-adjust-turn Look e = absurd (omega arith)
+is-adjust-turn StartSent e = absurd (omega arith)
+is-adjust-turn (StartDelivered p) e = absurd (omega arith)
+is-adjust-turn StartConfirmed e = absurd (omega arith)
+is-adjust-turn VoteTurn e = absurd (omega arith)
+is-adjust-turn (VoteDelivered p k c x) e = absurd (omega arith)
+is-adjust-turn VoteClose e = absurd (omega arith)
+is-adjust-turn AdjustTurn e = refl
+is-adjust-turn (AdjustDelivered p k c x) e = absurd (omega arith)
+is-adjust-turn AdjustClose e = absurd (omega arith)
+
+-- at its adjust turn a head with a candidate and a vote reading of its own has an adjuster, or becomes one
+turn-adjusts : (r : HeadRecord) (v : ℕ) → r .vote .choice ≡ SomeNumber v → r .own < r .n → isReading (voteOf r (r .own)) ≡ true
+    → isNumber (utter (speechOf r AdjustTurn) (prepared r AdjustTurn) .after .adjust .choice) ≡ true
+unfolding mayAdjust adjust
+turn-adjusts r v e l k = go (mayAdjust (prepared r AdjustTurn)) _ refl
+  where
+    go : (b : Bool) (x : Reading) → mayAdjust (prepared r AdjustTurn) ≡ b → isNumber (utter (cond b (adjusting (r .own) x) nothing) (prepared r AdjustTurn) .after .adjust .choice) ≡ true
+    go true x u = refl
+    go false x u =
+        cases (isNumber (r .adjust .choice)) (λ y. y)
+        (λ y. let candidate : isNumber (r .vote .choice) ≡ true = rw e refl in
+        let enough : leb 1 (length (voteReadings (prepared r AdjustTurn) (r .n))) ≡ true = le-leb 1 (length (voteReadings (prepared r AdjustTurn) (r .n))) (some-reading (prepared r AdjustTurn) (r .n) (r .own) l k) in
+        let free : not (isNumber (r .adjust .choice)) ≡ true = rw y refl in
+        absurd-bool (and-both candidate (and-both free enough)) u)
+
+module _ {g : Setting} {h : History} (r : Round g h) where
+  -- the adjust phase closes after the vote phase
+  pub adjust-later : {s : History} → Valid g s → (q : ℕ) → q < g .n → recordOf g s q .vote .closed ≡ false → recordOf g s q .adjust .closed ≡ false
+  adjust-later {s} v q l o =
+      cases (recordOf g s q .adjust .closed)
+      (λ u. absurd-bool (run-in-range (r .sheet .heads-fit-test) v q l .marks .adjusting (or-second (recordOf g s q .adjust .turn) _ u)) o) (λ u. u)
+
   -- (a) EVERY CORRECT HEAD HAS A CANDIDATE AT THE FIRST CORRECT VOTE CLOSE
 
   abbrev V₁ : History
@@ -67,7 +117,7 @@ module _ {g : Setting} {h : History} (r : Round g h)
         let sent-it = and-left (took 1 p V₁) _ (took-all d) in
         let there = correct-at (λ q. received 2 p 0 q V₁) (implied (took 1 p V₁) _ (votes-heard r d .1) sent-it) c in
         let v = valid-moment r votes in
-        rw (start-found g (r .sheet .at-most-16) v q p there (adjust-later V₁ v q (c .is-head) (still-open r votes now c)) .reading-is) refl
+        rw (start-found g (r .sheet .at-most-16) v q p there (adjust-later v q (c .is-head) (still-open r votes now c)) .reading-is) refl
 
     -- f + 1 readings, its turn taken, the vote open: q would have voted for itself
     impossible : ⊥
@@ -119,7 +169,7 @@ module _ {g : Setting} {h : History} (r : Round g h)
   start-known {s} x {q} c cq t o =
       let k = confirmation c x t in
       let v = valid-earlier x (r .sheet .valid) in
-      start-found g (r .sheet .at-most-16) v q c (any-grows (receives 2 c 0 q) (earlier-past (k .there)) (k .reached-all cq)) (adjust-later s v q (cq .is-head) o)
+      start-found g (r .sheet .at-most-16) v q c (any-grows (receives 2 c 0 q) (earlier-past (k .there)) (k .reached-all cq)) (adjust-later v q (cq .is-head) o)
 
   -- what an event does to its head's own vote reading: nothing, or it is the start reading of the candidate voted for
   pub data OwnReading (s : History) (e : Event) : Type 0 where
@@ -173,5 +223,42 @@ module _ {g : Setting} {h : History} (r : Round g h)
           → isReading (voteOf (recordOf g (e ∷ s) (e .entry .head)) (e .entry .head)) ≡ true
       go cq u (same-reading hs vs) ih = rw vs (ih (sym hs ∙ u))
       go cq u (new-reading w hn o vn) ih =
-          let known = start-known x w cq (candidate-confirmed g (r .sheet .at-most-16) turn-confirmed (more t v) (e .entry .head) w hn) o in
+          let known = start-known x w cq (candidate-confirmed g (r .sheet .at-most-16) (r .sheet .heads-fit-test) (more t v) (e .entry .head) w hn) o in
           rw (vn, known .reading-is) refl
+
+  -- (e) EVERY CORRECT HEAD HAS AN ADJUSTER AT THE FIRST CORRECT ADJUST CLOSE
+
+  pub candidate-stays : {s : History} → Earlier s h → any (isClose r votes) s ≡ true → {q : ℕ} → CorrectHead g q → held g votes s q ≡ SomeNumber (chosen r votes has-candidate)
+  candidate-stays = choice-stays r votes has-candidate
+
+  adjuster-after-turn : {s : History} (e : Event) → Earlier (e ∷ s) h → CorrectHead g (e .entry .head) → e .entry .action ≡ 7
+      → isNumber (held g adjusts (e ∷ s) (e .entry .head)) ≡ true
+  unfolding isClosed
+  adjuster-after-turn {s} e x c a =
+      let v = valid-earlier x (r .sheet .valid) in
+      let t = valid-taken v in
+      let is = is-adjust-turn (t .action) (t .asked .number-is ∙ a) in
+      let shut = not-false (or-left (not (recordOf g s (e .entry .head) .vote .closed)) _ (subst (λ (i : Action). isClosed (recordOf g s (e .entry .head)) i ≡ false) is (t .is-open))) in
+      let begun = took-correct 6 s c (sym (closed-took g votes (valid-past v) (e .entry .head)) ∙ shut) in
+      let candidate = candidate-stays (earlier-past x) begun c in
+      let fx = fixed g (valid-past v) (e .entry .head) in
+      subst (λ (z : HeadRecord). isNumber (z .adjust .choice) ≡ true) (sym (record-at g e s)) (of-effect g (λ y. isNumber (y .after .adjust .choice) ≡ true) t
+      (subst (λ (i : Action). isNumber (utter (speechOf (baseOf g s e) i) (prepared (baseOf g s e) i) .after .adjust .choice) ≡ true) (sym is)
+      (turn-adjusts (baseOf g s e) _ candidate (rw (fx .own-is, fx .n-is) (c .is-head))
+      (subst (λ (q : ℕ). isReading (voteOf (recordOf g s (e .entry .head)) q) ≡ true) (sym (fx .own-is)) (own-reading (valid-past v) (earlier-past x) (e .entry .head) _ c candidate)))))
+
+  is-some : (m : OptNumber) → isNumber m ≡ true → (w : ℕ) × (m ≡ SomeNumber w)
+  is-some NoNumber e = absurd-bool e refl
+  is-some (SomeNumber w) e = (w, refl)
+
+  pub has-adjuster : (q : ℕ) → CorrectHead g q → (w : ℕ) × (held g adjusts (moment r adjusts) q ≡ SomeNumber w)
+  has-adjuster q c =
+      let f = find (takes 7 q) (moment r adjusts) (adjusts-heard r c .0) in
+      let is : f .event .entry .head ≡ q = eqb-true _ q (and-left (eqb (f .event .entry .head) q) _ (f .holds)) in
+      let seven = eqb-true _ 7 (and-right (eqb (f .event .entry .head) q) _ (f .holds)) in
+      let w = is-some _ (adjuster-after-turn (f .event) (earlier-trans (f .there) (moment-earlier r adjusts)) (subst (CorrectHead g) (sym is) c) seven) in
+      let b = falls-later g adjusts (f .there) (valid-moment r adjusts) (f .event .entry .head) (w .0) (record { choice = w .0; holds = w .1; low = omega arith }) in
+      (b .choice, subst (λ (p : ℕ). held g adjusts (moment r adjusts) p ≡ SomeNumber (b .choice)) is (b .holds))
+
+  pub adjuster-stays : {s : History} → Earlier s h → any (isClose r adjusts) s ≡ true → {q : ℕ} → CorrectHead g q → held g adjusts s q ≡ SomeNumber (chosen r adjusts has-adjuster)
+  adjuster-stays = choice-stays r adjusts has-adjuster

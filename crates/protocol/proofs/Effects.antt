@@ -529,3 +529,17 @@ own-spoken (voting w) m c b e =
     subst (λ (z : ℕ). voteOf (vote w m .after) (m .own) ≡ startOf (vote w m .after) z) (same-number e)
     (ap (λ (z : Sender). z .vote) (getD-set-same (m .senders) (m .own) _ noSender b) ∙ sym (set-keeps (λ z. z .start) (m .senders) (m .own) w _ refl))
 own-spoken (adjusting w x) m c b e = none-is-some e
+
+-- a start is sent once
+pub start-once : (r : HeadRecord) (a : Action) → number a ≡ 1 → isClosed r a ≡ false → r .started ≡ false
+unfolding isClosed
+start-once r Look nu e = absurd (omega arith)
+start-once r StartSent nu e = or-left (r .started) _ e
+start-once r (StartDelivered p) nu e = absurd (omega arith)
+start-once r StartConfirmed nu e = absurd (omega arith)
+start-once r VoteTurn nu e = absurd (omega arith)
+start-once r (VoteDelivered p j c x) nu e = absurd (omega arith)
+start-once r VoteClose nu e = absurd (omega arith)
+start-once r AdjustTurn nu e = absurd (omega arith)
+start-once r (AdjustDelivered p j c x) nu e = absurd (omega arith)
+start-once r AdjustClose nu e = absurd (omega arith)

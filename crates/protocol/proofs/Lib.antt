@@ -5,7 +5,10 @@ pub mod Effects
 pub mod Valid
 pub mod Ranges
 pub mod Phases
+pub mod Frames
 pub mod Starts
 pub mod Rounds
+pub mod Adjustments
 pub mod Agreement
+pub mod Precision
 pub mod Marked

@@ -94,3 +94,9 @@ pub each-at : (t : Event → History → Bool) {e : Event} {s h : History} → e
 unfolding each
 each-at t {e} {s} g now = and-left (t e s) _ g
 each-at t g (later {e = d} {h = h} x) = each-at t (and-right (t d h) _ g) x
+
+-- of two moments, the one at which a test has been passed by an event, and at the other not, is the later
+pub later-moment : (p : Event → Bool) {a b h : History} → Earlier a h → Earlier b h → any p a ≡ false → any p b ≡ true → Earlier a b
+later-moment p x now t u = x
+later-moment p now (later y) t u = absurd-bool (any-grows p (later y) u) t
+later-moment p (later x) (later y) t u = later-moment p x y t u

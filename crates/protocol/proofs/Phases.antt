@@ -90,7 +90,7 @@ named-frame k (Vote j c x) e = (c, refl)
 named-frame k (Adjust j c x) e = (c, refl)
 
 -- who outranks a choice has a lower number
-outranks-below : (c : ℕ) (m : OptNumber) (w : ℕ) → outranks c m ≡ true → m ≡ SomeNumber w → c < w
+pub outranks-below : (c : ℕ) (m : OptNumber) (w : ℕ) → outranks c m ≡ true → m ≡ SomeNumber w → c < w
 outranks-below c NoNumber w o e = none-is-some e
 outranks-below c (SomeNumber v) w o e = let eq = same-number e in let lt = ltb-true c v o in omega arith
 
@@ -343,10 +343,6 @@ module _ (g : Setting) (k : Kind) where
 
   -- FRAMES SENT
 
-  or-names : (a b : OptNumber) (c : ℕ) → orNumber a b ≡ SomeNumber c → (a ≡ SomeNumber c → ⊥) → b ≡ SomeNumber c
-  or-names NoNumber b c h d = h
-  or-names (SomeNumber w) b c h d = absurd (d h)
-
   -- a property of every frame of p holds of those sent before, and of the one that p sends now
   pub frame-new : {s : History} {e : Event} (P : ℕ → ℕ → Type 0) → Turn s e → ((j c : ℕ) → names s (e .entry .head) j ≡ SomeNumber c → P j c)
       → ((z : Spoke s e) → P (sent s (e .entry .head)) (z .choice)) → (j c : ℕ) → names (e ∷ s) (e .entry .head) j ≡ SomeNumber c → P j c
@@ -382,7 +378,7 @@ module _ (g : Setting) (k : Kind) where
     pub holds : held s p ≡ SomeNumber choice
     pub names-it : names s p j ≡ SomeNumber choice
 
-  unsent : {s : History} → Valid g s → (p : ℕ) → names s p (sent s p) ≡ NoNumber
+  pub unsent : {s : History} → Valid g s → (p : ℕ) → names s p (sent s p) ≡ NoNumber
   unsent {s} v p = go (names s p (sent s p)) refl
     where
       go : (m : OptNumber) → names s p (sent s p) ≡ m → names s p (sent s p) ≡ NoNumber

@@ -12,7 +12,7 @@ use borrow.Author.Tests.{eqb-true, eqb-false, eq-eqb, leb-true, leb-false}
 use Rattle.protocol.specs.Base.{any, countBelow}
 use Rattle.protocol.specs.Types.{Reading, OptReading, NoReading, SomeReading, OptNumber, NoNumber, SomeNumber, Sender, Phase, HeadRecord, Setting, Entry, Stepped, Frame, NoFrame, Start, Vote, Adjust}
 use Rattle.protocol.specs.Types.{Action, Look, StartSent, StartDelivered, StartConfirmed, VoteTurn, VoteDelivered, VoteClose, AdjustTurn, AdjustDelivered, AdjustClose}
-use Rattle.protocol.specs.Words.{hasSender}
+use Rattle.protocol.specs.Words.{hasSender, headsFit}
 use Rattle.protocol.specs.Record.{isReading, isNumber, keptOf, startOf, fresh}
 use Rattle.protocol.specs.Step.{vote, adjust, startsHeld, mayLead}
 use Rattle.protocol.specs.Run.{Event, History, recordOf, frameSent, frameOf}
@@ -22,6 +22,7 @@ use Rattle.protocol.proofs.Moments.{Earlier, now, later, any-grows, fin
 use Rattle.protocol.proofs.Effects.{Kind, votes, adjusts, phaseOf, deliveredBy, withSenders, ignored, keptAfter, column-kept, prepared, Speech, nothing, voting, adjusting, utter, speechOf, none-is-some}
 use Rattle.protocol.proofs.Effects as Effects
 use Rattle.protocol.proofs.Valid.{baseOf, Taken, Valid, start, more, record-at, record-other, by-head, invariant, keptNext, kept-at, closed-took, confirmed-took}
+use Rattle.protocol.proofs.Ranges.{run-in-range}
 use Rattle.protocol.proofs.Phases.{held, sent, names, names-other, Origin, own, heard, Turn, quiet, spoke, turn, frame-new, LastFrame, last-frame, held-sent}
 
 -- a frame that action 2 delivers is a start
@@ -118,7 +119,7 @@ module _ (g : Setting) (small : g .n ≤ 16) where
       let from = and-left (eqb (e .entry .sender) v) _ (and-right (takes 2 (e .entry .head) e) _ h) in
       start-at t w v ∙ rw (is, o, from) refl
 
-  start-same : {s : History} {e : Event} (t : Taken g s e) → Valid g s → (v : ℕ) → receives 2 v 0 (e .entry .head) e ≡ false
+  pub start-same : {s : History} {e : Event} (t : Taken g s e) → Valid g s → (v : ℕ) → receives 2 v 0 (e .entry .head) e ≡ false
       → startOf (recordOf g (e ∷ s) (e .entry .head)) v ≡ startOf (recordOf g s (e .entry .head)) v
   start-same {s} {e} t w v h = start-at t w v ∙ go (ignored (baseOf g s e) (e .entry .sender) x) (eqb (e .entry .sender) v) refl
     where
@@ -167,7 +168,7 @@ module _ (g : Setting) (small : g .n ≤ 16) where
   waits = invariant g (λ q r. Waiting r) (λ q a. absurd-bool a refl) (λ s e t v w. waiting-effect (baseOf g s e) (t .action) w)
 
   -- (d) WHOEVER IS VOTED FOR HAS CONFIRMED ITS START
-  module _ (turn-confirmed : (s : History) → Valid g s → (q : ℕ) → q < g .n → recordOf g s q .vote .turn ≡ true → recordOf g s q .confirmed ≡ true) where
+  module _ (fit : headsFit (g .n) (g .f) ≡ true) where
     pub frame-confirmed : {s : History} → Valid g s → (p j c : ℕ) → names g votes s p j ≡ SomeNumber c → took 3 c s ≡ true
     unfolding frameSent
     frame-confirmed start p j c = none-is-some
@@ -179,7 +180,7 @@ module _ (g : Setting) (small : g .n ≤ 16) where
       where
         new : (c : ℕ) → Origin g votes s e c → ((p j c : ℕ) → names g votes s p j ≡ SomeNumber c → took 3 c s ≡ true) → took 3 c (e ∷ s) ≡ true
         new c (own is none tu) ih =
-            subst (λ (q : ℕ). took 3 q (e ∷ s) ≡ true) (sym is) (sym (confirmed-took g (more t v) (e .entry .head)) ∙ turn-confirmed (e ∷ s) (more t v) (e .entry .head) (t .head-below) tu)
+            subst (λ (q : ℕ). took 3 q (e ∷ s) ≡ true) (sym is) (sym (confirmed-took g (more t v) (e .entry .head)) ∙ run-in-range fit (more t v) (e .entry .head) (t .head-below) .marks .turn tu)
         new c (heard a n) ih = or-second (takes 3 c e) _ (ih _ _ c n)
 
     pub candidate-confirmed : {s : History} → Valid g s → (q c : ℕ) → held g votes s q ≡ SomeNumber c → took 3 c s ≡ true

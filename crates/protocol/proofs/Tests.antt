@@ -94,6 +94,13 @@ count-some (suc n) p h =
     cases (p n) (λ t. (n, omega arith, t))
     (λ t. let x = count-some n p (rw t at h) in (x .0, (let l = x .1 in omega arith), x .2))
 
+-- and a count that counts something is positive
+pub some-count : (n : ℕ) (p : ℕ → Bool) (k : ℕ) → k < n → p k ≡ true → 0 < countBelow n p
+some-count zero p k h e = absurd (not-suc-le-zero h)
+some-count (suc n) p k h e =
+    cond-elim (λ (x : ℕ). 0 < x) (p n) (λ _. omega arith)
+    (λ t. some-count n p k (cases (eqb k n) (λ z. absurd-bool e (rw (eqb-true k n z) t)) (λ z. let d = eqb-false k n z in omega arith)) e)
+
 module _ {A : Type 0} where
   -- x is an element of the list
   pub data In (x : A) : List A → Type 0 where

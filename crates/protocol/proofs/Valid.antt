@@ -254,6 +254,7 @@ pub record Sheet (g : Setting) (h : History) : Type 0 where
   pub at-least-two : 2 ≤ g .n
   pub at-most-16 : g .n ≤ 16
   pub few-faulty : 2 * g .f + 1 ≤ g .n
+  pub heads-fit-test : headsFit (g .n) (g .f) ≡ true
   pub valid : Valid g h
 
 pub heads-fit : (n f : ℕ) → headsFit n f ≡ true → (2 ≤ n) × (n ≤ 16) × (2 * f + 1 ≤ n)
@@ -272,7 +273,7 @@ accepted-sheet ws h e = go (sheetVerdict ws) refl e
     go (Refused c) t u = absurd (let z : _≡_ {A = ℕ} 0 1 = cc in omega arith)
     go Accepted t u =
         let x = heads-fit _ _ (first-word t) in
-        record { at-least-two = x .0; at-most-16 = x .1; few-faulty = x .2; valid = valid-run ws (entryCount ws) h u }
+        record { at-least-two = x .0; at-most-16 = x .1; few-faulty = x .2; heads-fit-test = first-word t; valid = valid-run ws (entryCount ws) h u }
 
 -- RECORDS OF A HISTORY
 

@@ -1,0 +1,267 @@
+-- How many frames a round has: with n heads at most n² + 2n, the count that source 000 keeps, and so at most document
+-- 01's 2n² + n. Source 000 takes a head's first vote to be for itself; the count holds without that.
+-- Why: a head sends one start, and in each phase it speaks for falling numbers, never twice for the same. Who is spoken
+-- for has spoken for itself; who speaks for itself does so before it speaks for anybody else, so for nobody above it.
+-- Hence no two heads speak for each other, and of the n² pairs of speaker and number a phase has at most n(n + 1)/2.
+-- Main results, over the phase: `spoke-itself`, `own-first`, `phase-frames`; over a round: `frames-published`,
+-- `frames-bound`; of a sheet's words: `sheet-published`, `sheet-frames`.
+use mathlib.Core.Path.{_≡_, refl, sym, _∙_, ap, subst}
+use mathlib.Core.Bool.{Bool, true, false, cond}
+use mathlib.Core.List.{List, [], _∷_}
+use Prim.Native.Nat.{ℕ, zero, suc, _+_, _*_, _≤_, _<_}
+use native.Mathlib.Nat.{not-suc-le-zero, mul-suc, suc-mul}
+use native.Mathlib.Omega.{arith}
+use lib.Dec.{ltb, eqb}
+use borrow.Author.Tests.{eqb-true, eqb-false, ltb-true, lt-ltb}
+use Rattle.protocol.specs.Base.{countBelow}
+use Rattle.protocol.specs.Types.{OptNumber, NoNumber, SomeNumber, HeadRecord, Setting, Action}
+use Rattle.protocol.specs.Words.{settingAt}
+use Rattle.protocol.specs.Record.{fresh}
+use Rattle.protocol.specs.Step.{vote, adjust, isClosed}
+use Rattle.protocol.specs.Run.{Event, History, recordOf, frameSent, isFrame, ran, runSheet}
+use Rattle.protocol.proofs.Tests.{absurd-bool, cases, or-second, eqb-same, count-some, some-count}
+use Rattle.protocol.proofs.Effects.{Kind, votes, adjusts, phaseOf, number, prepared, Speech, utter, Spoken, says-nothing, says-start, says-vote, says-adjust, spoken, none-is-some, same-number, closed-last, start-once}
+use Rattle.protocol.proofs.Valid.{baseOf, Taken, Valid, start, more, accepted-sheet, record-at, record-other, by-head, of-effect}
+use Rattle.protocol.proofs.Phases.{names, held, sent, Origin, own, heard, Spoke, Turn, quiet, spoke, turn, names-other, sent-other, outranks-below, frame-new, frame-stays, serial-below, unsent, AtMost, falls}
+
+-- the number of events at which a frame was sent
+unfoldable pub framesIn : History → ℕ
+framesIn [] = 0
+framesIn (e ∷ s) = cond (isFrame (e .frame)) 1 0 + framesIn s
+
+-- SUMS
+
+abbrev bit : Bool → ℕ
+bit b = cond b 1 0
+
+abbrev pub sumBelow : ℕ → (ℕ → ℕ) → ℕ
+sumBelow zero f = 0
+sumBelow (suc n) f = f n + sumBelow n f
+
+bit-mono : (a b : Bool) → (a ≡ true → b ≡ true) → bit a ≤ bit b
+bit-mono true b h = rw (h refl) (omega arith)
+bit-mono false b h = omega arith
+
+bits-apart : (a b : Bool) → (a ≡ true → b ≡ true → ⊥) → bit a + bit b ≤ 1
+bits-apart true true h = absurd (h refl refl)
+bits-apart true false h = omega arith
+bits-apart false b h = let z = bit-mono b true (λ _. refl) in omega arith
+
+sum-mono : (n : ℕ) (f h : ℕ → ℕ) → ((q : ℕ) → f q ≤ h q) → sumBelow n f ≤ sumBelow n h
+sum-mono zero f h le = omega arith
+sum-mono (suc n) f h le = let a = le n in let b = sum-mono n f h le in omega arith
+
+sum-add : (n : ℕ) (f h : ℕ → ℕ) → sumBelow n (λ q. f q + h q) ≡ sumBelow n f + sumBelow n h
+sum-add zero f h = refl
+sum-add (suc n) f h = let a = sum-add n f h in omega arith
+
+sum-ones : (n : ℕ) (f : ℕ → ℕ) → ((q : ℕ) → q < n → f q ≤ 1) → sumBelow n f ≤ n
+sum-ones zero f le = omega arith
+sum-ones (suc n) f le = let a = le n (omega arith) in let b = sum-ones n f (λ q l. le q (omega arith)) in omega arith
+
+-- no term falls, and one of them grows by d
+sum-grows : (n : ℕ) (f h : ℕ → ℕ) (p d : ℕ) → p < n → ((q : ℕ) → f q ≤ h q) → f p + d ≤ h p → sumBelow n f + d ≤ sumBelow n h
+sum-grows zero f h p d lt le g = absurd (not-suc-le-zero lt)
+sum-grows (suc n) f h p d lt le g =
+    cases (eqb p n)
+    (λ t. let a : f n + d ≤ h n = subst (λ (q : ℕ). f q + d ≤ h q) (eqb-true p n t) g in let b = sum-mono n f h le in omega arith)
+    (λ t. let a = sum-grows n f h p d (let z = eqb-false p n t in omega arith) le g in let b = le n in omega arith)
+
+-- a relation that holds both ways only of a number and itself has at most n(n + 1)/2 pairs below n: the number n adds at
+-- most n pairs with the numbers below it, and one with itself
+pairs-below : (n : ℕ) (r : ℕ → ℕ → Bool) → ((p c : ℕ) → r p c ≡ true → r c p ≡ true → p ≡ c) → 2 * sumBelow n (λ p. sumBelow n (λ c. bit (r p c))) ≤ n * n + n
+pairs-below zero r anti = omega arith
+pairs-below (suc n) r anti =
+    let column = sum-add n (λ p. bit (r p n)) (λ p. sumBelow n (λ c. bit (r p c))) in
+    let both = sum-add n (λ c. bit (r n c)) (λ c. bit (r c n)) in
+    let few = sum-ones n (λ c. bit (r n c) + bit (r c n)) (λ c l. bits-apart (r n c) (r c n) (λ x y. let eq = anti n c x y in omega arith)) in
+    let itself = bit-mono (r n n) true (λ _. refl) in
+    let before = pairs-below n r anti in
+    let square : suc n * suc n ≡ n * n + n + suc n = mul-suc (suc n) n ∙ rw (suc-mul n n) refl in
+    omega arith
+
+-- WHO SPEAKS FOR WHOM
+
+abbrev isFor : ℕ → OptNumber → Bool
+isFor c NoNumber = false
+isFor c (SomeNumber v) = eqb v c
+
+for-it : (c : ℕ) (m : OptNumber) → isFor c m ≡ true → m ≡ SomeNumber c
+for-it c NoNumber e = absurd-bool e refl
+for-it c (SomeNumber v) e = ap (λ (w : ℕ). SomeNumber w) (eqb-true v c e)
+
+none-sent : (k : Kind) (n f q : ℕ) → phaseOf k (fresh n f q) .sent ≡ 0
+unfolding fresh
+none-sent votes n f q = refl
+none-sent adjusts n f q = refl
+
+module _ (g : Setting) (k : Kind) where
+  -- a frame of p names c
+  abbrev pub SpokeFor : History → ℕ → ℕ → Type 0
+  SpokeFor s p c = (j : ℕ) × (names g k s p j ≡ SomeNumber c)
+
+  pub spoke-stays : {s : History} {e : Event} → Taken g s e → Valid g s → (p c : ℕ) → SpokeFor s p c → SpokeFor (e ∷ s) p c
+  spoke-stays t v p c x = (x .0, frame-stays g k t v p (x .0) c (x .1))
+
+  spoke-new : {s : History} {e : Event} → Valid g s → (z : Spoke g k s e) → SpokeFor (e ∷ s) (e .entry .head) (z .choice)
+  spoke-new {s} {e} v z = (sent g k s (e .entry .head), z .names-new _ ∙ rw (unsent g k v (e .entry .head), eqb-same (sent g k s (e .entry .head))) refl)
+
+  -- a property of every speech: an event keeps it, and it holds of a speech when it is made
+  every-speech : (P : History → ℕ → ℕ → Type 0)
+      → ((s : History) (e : Event) → Taken g s e → Valid g s → (p c : ℕ) → SpokeFor s p c → P s p c → P (e ∷ s) p c)
+      → ((s : History) (e : Event) → Taken g s e → Valid g s → ((p c : ℕ) → SpokeFor s p c → P s p c) → (z : Spoke g k s e) → P (e ∷ s) (e .entry .head) (z .choice))
+      → {s : History} → Valid g s → (p c : ℕ) → SpokeFor s p c → P s p c
+  unfolding frameSent
+  every-speech P keep new start p c = λ x. none-is-some (x .1)
+  every-speech P keep new (more {e = e} {s = s} t v) p c =
+      let old : (p c : ℕ) → SpokeFor s p c → P s p c = every-speech P keep new v in
+      by-head (λ p. SpokeFor (e ∷ s) p c → P (e ∷ s) p c) e p
+      (λ x. frame-new g k (λ j c. P (e ∷ s) (e .entry .head) c) (turn g k t v) (λ j c h. keep s e t v _ c (j, h) (old _ c (j, h))) (new s e t v old) (x .0) c (x .1))
+      (λ d x. let y : SpokeFor s p c = (x .0, sym (names-other g k e s p (x .0) d) ∙ x .1) in keep s e t v p c y (old p c y))
+
+  -- who spoke for c has a choice, at most c
+  pub spoke-low : {s : History} → Valid g s → (p c : ℕ) → SpokeFor s p c → AtMost g k s p c
+  spoke-low = every-speech (AtMost g k) (λ s e t v p c x a. falls g k t v p c a) (λ s e t v old z. record { choice = z .choice; holds = z .held-new; low = omega arith })
+
+  -- a new speech is for a number not spoken for before
+  speech-new : {s : History} {e : Event} → Valid g s → (z : Spoke g k s e) → SpokeFor s (e .entry .head) (z .choice) → ⊥
+  speech-new v z x = let a = spoke-low v _ _ x in let lt = outranks-below _ _ _ (z .higher) (a .holds) in let le = a .low in omega arith
+
+  -- every speaker is a head
+  pub speaker-below : {s : History} → Valid g s → (p c : ℕ) → SpokeFor s p c → p < g .n
+  speaker-below = every-speech (λ s p c. p < g .n) (λ s e t v p c x lt. lt) (λ s e t v old z. t .head-below)
+
+  -- who is spoken for has spoken for itself
+  pub spoke-itself : {s : History} → Valid g s → (p c : ℕ) → SpokeFor s p c → SpokeFor s c c
+  spoke-itself = every-speech (λ s p c. SpokeFor s c c) (λ s e t v p c x y. spoke-stays t v c c y) (λ s e t v old z. go t v old z (z .origin))
+    where
+      go : {s : History} {e : Event} → Taken g s e → Valid g s → ((p c : ℕ) → SpokeFor s p c → SpokeFor s c c) → (z : Spoke g k s e) → Origin g k s e (z .choice)
+          → SpokeFor (e ∷ s) (z .choice) (z .choice)
+      go {s} {e} t v old z (own o none tu) = subst (λ (q : ℕ). SpokeFor (e ∷ s) q (z .choice)) (sym o) (spoke-new v z)
+      go {s} {e} t v old z (heard a na) = spoke-stays t v _ _ (old (e .entry .sender) (z .choice) (e .entry .serial, na))
+
+  -- who has a choice does not begin to speak for itself
+  itself-before : {s : History} {e : Event} → Taken g s e → Valid g s → (p w : ℕ) → held g k s p ≡ SomeNumber w → SpokeFor (e ∷ s) p p → SpokeFor s p p
+  itself-before {s} {e} t v p w =
+      by-head (λ p. held g k s p ≡ SomeNumber w → SpokeFor (e ∷ s) p p → SpokeFor s p p) e p
+      (λ h x. frame-new g k (λ j c. c ≡ e .entry .head → SpokeFor s (e .entry .head) (e .entry .head)) (turn g k t v)
+      (λ j c na eq. (j, na ∙ ap (λ (q : ℕ). SomeNumber q) eq)) (λ z eq. go h (z .origin) eq) (x .0) (e .entry .head) (x .1) refl)
+      (λ d h x. (x .0, sym (names-other g k e s p (x .0) d) ∙ x .1))
+    where
+      go : {c : ℕ} → held g k s (e .entry .head) ≡ SomeNumber w → Origin g k s e c → c ≡ e .entry .head → SpokeFor s (e .entry .head) (e .entry .head)
+      go h (own o none tu) eq = none-is-some (sym none ∙ h)
+      go h (heard a na) eq = spoke-itself v (e .entry .sender) (e .entry .head) (e .entry .serial, na ∙ ap (λ (q : ℕ). SomeNumber q) eq)
+
+  -- who spoke for itself spoke for nobody above it
+  pub own-first : {s : History} → Valid g s → (p c : ℕ) → SpokeFor s p c → SpokeFor s p p → c ≤ p
+  own-first =
+      every-speech (λ s p c. SpokeFor s p p → c ≤ p) (λ s e t v p c x le y. let a = spoke-low v p c x in le (itself-before t v p (a .choice) (a .holds) y))
+      (λ s e t v old z y. let a = spoke-low (more t v) _ _ y in let eq = same-number (sym (a .holds) ∙ z .held-new) in let le = a .low in omega arith)
+
+  -- no two heads speak for each other
+  pub not-both : {s : History} → Valid g s → (p c : ℕ) → SpokeFor s p c → SpokeFor s c p → p ≡ c
+  not-both v p c x y = let a = own-first v p c x (spoke-itself v c p y) in let b = own-first v c p y (spoke-itself v p c x) in omega arith
+
+  -- FRAMES OF A PHASE
+
+  -- SpokeFor as a test, and how many numbers p spoke for
+  abbrev speaksFor : History → ℕ → ℕ → Bool
+  speaksFor s p c = ltb 0 (countBelow (sent g k s p) (λ j. isFor c (names g k s p j)))
+
+  abbrev spokenCount : History → ℕ → ℕ
+  spokenCount s p = sumBelow (g .n) (λ c. bit (speaksFor s p c))
+
+  test-spoke : (s : History) (p c : ℕ) → speaksFor s p c ≡ true → SpokeFor s p c
+  test-spoke s p c e = let x = count-some (sent g k s p) (λ j. isFor c (names g k s p j)) (ltb-true 0 _ e) in (x .0, for-it c _ (x .2))
+
+  spoke-test : {s : History} → Valid g s → (p c : ℕ) → SpokeFor s p c → speaksFor s p c ≡ true
+  spoke-test {s} v p c x =
+      lt-ltb 0 _ (some-count (sent g k s p) (λ j. isFor c (names g k s p j)) (x .0) (serial-below g k v p (x .0) c (x .1)) (rw (x .1) (eqb-same c)))
+
+  -- each frame of p is for another number
+  sent-low : {s : History} → Valid g s → (p : ℕ) → sent g k s p ≤ spokenCount s p
+  unfolding recordOf
+  sent-low start p = let z = none-sent k (g .n) (g .f) p in omega arith
+  sent-low (more {e = e} {s = s} t v) p =
+      by-head (λ p. sent g k (e ∷ s) p ≤ spokenCount (e ∷ s) p) e p (go (turn g k t v) (sent-low v (e .entry .head)))
+      (λ d. let eq = sent-other g k e s p d in let a = sent-low v p in let b = sum-mono (g .n) _ _ (grows p) in omega arith)
+    where
+      grows : (p c : ℕ) → bit (speaksFor s p c) ≤ bit (speaksFor (e ∷ s) p c)
+      grows p c = bit-mono (speaksFor s p c) (speaksFor (e ∷ s) p c) (λ x. spoke-test (more t v) p c (spoke-stays t v p c (test-spoke s p c x)))
+
+      go : Turn g k s e → sent g k s (e .entry .head) ≤ spokenCount s (e .entry .head) → sent g k (e ∷ s) (e .entry .head) ≤ spokenCount (e ∷ s) (e .entry .head)
+      go (quiet z) le = let eq = z .sent-same in let b = sum-mono (g .n) _ _ (grows (e .entry .head)) in omega arith
+      go (spoke z) le =
+          let c = z .choice in let x = spoke-new v z in let eq = z .sent-new in
+          let new : bit (speaksFor s (e .entry .head) c) + 1 ≤ bit (speaksFor (e ∷ s) (e .entry .head) c) =
+          rw (spoke-test (more t v) _ c x) (bits-apart (speaksFor s (e .entry .head) c) true (λ y _. speech-new v z (test-spoke s _ c y))) in
+          let b = sum-grows (g .n) _ _ c 1 (speaker-below (more t v) c c (spoke-itself (more t v) _ c x)) (grows (e .entry .head)) new in
+          omega arith
+
+  -- at most n(n + 1)/2 frames in a phase
+  pub phase-frames : {s : History} → Valid g s → 2 * sumBelow (g .n) (sent g k s) ≤ g .n * g .n + g .n
+  phase-frames {s} v =
+      let a = sum-mono (g .n) (sent g k s) (spokenCount s) (sent-low v) in
+      let b = pairs-below (g .n) (speaksFor s) (λ p c x y. not-both v p c (test-spoke s p c x) (test-spoke s c p y)) in
+      omega arith
+
+-- FRAMES OF A ROUND
+
+-- a head's own frames: its start, its votes and its adjusts
+abbrev framesOf : HeadRecord → ℕ
+framesOf r = bit (r .started) + (r .vote .sent + r .adjust .sent)
+
+started-stays : (r : HeadRecord) (a : Action) → bit (r .started) ≤ bit (prepared r a .started)
+started-stays r a = bit-mono (r .started) (prepared r a .started) (or-second (eqb (number a) 1) (r .started))
+
+-- a step that sends a frame adds one to them
+frames-after : (r : HeadRecord) (a : Action) → isClosed r a ≡ false → {x : Speech} → Spoken r a x
+    → framesOf r + bit (isFrame (utter x (prepared r a) .frame)) ≤ framesOf (utter x (prepared r a) .after)
+unfolding vote adjust
+frames-after r a e says-nothing = let m = started-stays r a in omega arith
+frames-after r a e (says-start nu) = rw (start-once r a nu e, nu) (omega arith)
+frames-after r a e (says-vote y) = let m = started-stays r a in omega arith
+frames-after r a e (says-adjust y z) = let m = started-stays r a in omega arith
+
+module _ (g : Setting) where
+  frames-sum : {h : History} → Valid g h → framesIn h ≤ sumBelow (g .n) (λ p. framesOf (recordOf g h p))
+  unfolding framesIn
+  frames-sum start = omega arith
+  frames-sum (more {e = e} {s = s} t v) =
+      let a = frames-sum v in
+      let b = sum-grows (g .n) (λ p. framesOf (recordOf g s p)) (λ p. framesOf (recordOf g (e ∷ s) p)) (e .entry .head) (bit (isFrame (e .frame))) (t .head-below) grows here in
+      omega arith
+    where
+      here : framesOf (recordOf g s (e .entry .head)) + bit (isFrame (e .frame)) ≤ framesOf (recordOf g (e ∷ s) (e .entry .head))
+      here =
+          let taken : isClosed (baseOf g s e) (t .action) ≡ false = closed-last _ _ (t .action) ∙ t .is-open in
+          rw (record-at g e s) (of-effect g (λ y. framesOf (recordOf g s (e .entry .head)) + bit (isFrame (y .frame)) ≤ framesOf (y .after)) t
+          (frames-after (baseOf g s e) (t .action) taken (spoken (baseOf g s e) (t .action) taken)))
+
+      grows : (q : ℕ) → framesOf (recordOf g s q) ≤ framesOf (recordOf g (e ∷ s) q)
+      grows q = by-head (λ q. framesOf (recordOf g s q) ≤ framesOf (recordOf g (e ∷ s) q)) e q (let a = here in omega arith) (λ d. rw (record-other g e s q d) (omega arith))
+
+  -- source 000's count: n starts and the frames of two phases
+  pub frames-published : {h : History} → Valid g h → framesIn h ≤ g .n * g .n + 2 * g .n
+  frames-published {h} v =
+      let a = frames-sum v in
+      let b = sum-add (g .n) (λ p. bit (recordOf g h p .started)) (λ p. recordOf g h p .vote .sent + recordOf g h p .adjust .sent) in
+      let c = sum-add (g .n) (λ p. recordOf g h p .vote .sent) (λ p. recordOf g h p .adjust .sent) in
+      let d = sum-ones (g .n) (λ p. bit (recordOf g h p .started)) (λ p l. bit-mono (recordOf g h p .started) true (λ _. refl)) in
+      let x = phase-frames g votes v in
+      let y = phase-frames g adjusts v in
+      omega arith
+
+  -- document 01's bound
+  pub frames-bound : {h : History} → Valid g h → framesIn h ≤ 2 * (g .n * g .n) + g .n
+  frames-bound v = let a = frames-published v in let b = square (g .n) in omega arith
+    where
+      square : (n : ℕ) → n ≤ n * n
+      square zero = omega arith
+      square (suc n) = rw (mul-suc (suc n) n) (omega arith)
+
+pub sheet-published : (ws : List ℕ) (h : History) → runSheet ws ≡ ran h → framesIn h ≤ settingAt ws .n * settingAt ws .n + 2 * settingAt ws .n
+sheet-published ws h e = frames-published (settingAt ws) (accepted-sheet ws h e .valid)
+
+pub sheet-frames : (ws : List ℕ) (h : History) → runSheet ws ≡ ran h → framesIn h ≤ 2 * (settingAt ws .n * settingAt ws .n) + settingAt ws .n
+sheet-frames ws h e = frames-bound (settingAt ws) (accepted-sheet ws h e .valid)
