@@ -40,11 +40,14 @@ module _ (g : Setting) where
     where
       a : Action
       a = t .action
+
       r : HeadRecord
       r = baseOf g s e
+
       -- a fact of the answer is a fact of the event
       at : (x : Speech) → speechOf r a ≡ x → (P : Stepped → Type 0) → P (utter x (prepared r a)) → P (accepted (e .after) (e .frame))
       at x u P h = of-effect g P t (subst (λ (y : Speech). P (utter y (prepared r a))) (sym u) h)
+
       origin : (c : ℕ) (x : Reading) → Why adjusts r a c → Source r a x → Origin s e c x
       origin c x (itself is none tu) z = own (is ∙ fixed g v (e .entry .head) .own-is) none
       origin c x (told nu na) (computed n7 m) = absurd (omega arith)
@@ -54,11 +57,13 @@ module _ (g : Setting) where
           (subst (λ (y : ℕ). named (frameSent s y (e .entry .sender) (e .entry .serial)) ≡ SomeNumber c) is (ap (λ (d : Delivery). named (d .frame)) (sym (t .asked .delivery-is)) ∙ na))
           (subst (λ (y : ℕ). carriedReading (frameSent s y (e .entry .sender) (e .entry .serial)) ≡ SomeReading x) is
           (ap (λ (d : Delivery). carriedReading (d .frame)) (sym (t .asked .delivery-is)) ∙ ca))
+
       same : (x : Speech) → speechOf r a ≡ x → utter x (prepared r a) .after .adjustment ≡ r .adjustment → utter x (prepared r a) .after .adjust .sent ≡ r .adjust .sent
           → ((j : ℕ) → isDeliveredBy 8 j (utter x (prepared r a) .frame) ≡ false) → Adjusting s e
       same x u ad se fr =
           unchanged (at x u (λ y. y .after .adjustment ≡ recordOf g s (e .entry .head) .adjustment) ad)
           (at x u (λ y. y .after .adjust .sent ≡ sent g adjusts s (e .entry .head)) se) (λ j. at x u (λ y. isDeliveredBy 8 j (y .frame) ≡ false) (fr j))
+
       go : (x : Speech) → Spoken r a x → speechOf r a ≡ x → Adjusting s e
       go nothing w u = same nothing u refl refl (λ j. refl)
       go Speech.start w u = same Speech.start u refl refl (λ j. refl)
@@ -131,17 +136,23 @@ module _ (g : Setting) where
     where
       q : ℕ
       q = e .entry .head
+
       is : c ≡ z .choice
       is = same-number (sym ch ∙ ap (λ (r : HeadRecord). r .adjust .choice) (sym (record-at g e s)) ∙ z .held-new)
+
       value : adjustmentSent (e ∷ s) q (sent g adjusts s q) ≡ SomeReading x
       value = value-sent e v fr
+
       names-it : names g adjusts (e ∷ s) q (sent g adjusts s q) ≡ SomeNumber c
       names-it = z .names-new (sent g adjusts s q) ∙ rw (unsent g adjusts v q, eqb-same (sent g adjusts s q)) (ap (λ (w : ℕ). SomeNumber w) (sym is))
+
       go : Origin s e c x → Single (e ∷ s) c (adjustmentSent (e ∷ s) q (sent g adjusts s q))
       go (own c-is none) =
           let zero-sent = none-sent v q none in
-          record { first-names = subst (λ (w : ℕ). names g adjusts (e ∷ s) w 0 ≡ SomeNumber c) (sym c-is) (subst (λ (i : ℕ). names g adjusts (e ∷ s) q i ≡ SomeNumber c) zero-sent names-it);
-            first-carries = subst (λ (w : ℕ). adjustmentSent (e ∷ s) q (sent g adjusts s q) ≡ adjustmentSent (e ∷ s) w 0) (sym c-is) (ap (adjustmentSent (e ∷ s) q) zero-sent) }
+          record {
+            first-names = subst (λ (w : ℕ). names g adjusts (e ∷ s) w 0 ≡ SomeNumber c) (sym c-is) (subst (λ (i : ℕ). names g adjusts (e ∷ s) q i ≡ SomeNumber c) zero-sent names-it);
+            first-carries = subst (λ (w : ℕ). adjustmentSent (e ∷ s) q (sent g adjusts s q) ≡ adjustmentSent (e ∷ s) w 0) (sym c-is) (ap (adjustmentSent (e ∷ s) q) zero-sent);
+          }
       go (heard p j n val) =
           let y = single-stays t v (ih p j c n) in
           record { first-names = y .first-names; first-carries = value ∙ sym val ∙ y .first-carries }
@@ -170,6 +181,7 @@ module _ (g : Setting) where
     where
       old : (q : ℕ) → sent g adjusts s q ≡ suc j → adjustmentSent s q j ≡ SomeReading (recordOf g s q .adjustment) → adjustmentSent (e ∷ s) q j ≡ SomeReading (recordOf g s q .adjustment)
       old q was ih = value-stays e s q j _ (last-frame g adjusts v q j was .names-it) ∙ ih
+
       go : e .after .adjust .sent ≡ suc j → (sent g adjusts s (e .entry .head) ≡ suc j → adjustmentSent s (e .entry .head) j ≡ SomeReading (recordOf g s (e .entry .head) .adjustment))
           → Adjusting s e → adjustmentSent (e ∷ s) (e .entry .head) j ≡ SomeReading (e .after .adjustment)
       go h ih (unchanged ad se fr) = let was = sym se ∙ h in old (e .entry .head) was (ih was) ∙ ap (λ (x : Reading). SomeReading x) (sym ad)

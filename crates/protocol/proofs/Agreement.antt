@@ -99,6 +99,7 @@ module _ {g : Setting} {h : History} (r : Round g h) where
       where
         voted : (w : ℕ) × (held g votes V₁ p ≡ SomeNumber w)
         voted = told-candidate d t
+
         go : (b : Bool) → eqb q p ≡ b → ⊥
         go true u = none-is-some (sym none ∙ ap (held g votes V₁) (eqb-true q p u) ∙ voted .1)
         go false u =
@@ -159,11 +160,16 @@ module _ {g : Setting} {h : History} (r : Round g h) where
       let both = implied (eqb (e .event .entry .action) 3) _ (and-left (eqb (e .event .entry .action) 3 ⇒ startHeard g (e .event .entry .head) (e .past)) _ (each-at _ (r .p3) (earlier-trans (e .there) x))) three in
       let all-got = subst (λ (v : ℕ). correctAll g (λ q. received 2 v 0 q (e .past)) ≡ true) is (and-left (correctAll g (λ q. received 2 (e .event .entry .head) 0 q (e .past))) _ both) in
       let all-near = subst (λ (v : ℕ). correctAll g (λ p. correctAll g (λ q. leb (distance (lastStart (e .past) v p) (lastStart (e .past) v q)) (g .tightness))) ≡ true) is
-          (and-right (correctAll g (λ q. received 2 (e .event .entry .head) 0 q (e .past))) _ both) in
-      record { event = e .event; past = e .past; there = e .there; confirms = e .holds;
+      (and-right (correctAll g (λ q. received 2 (e .event .entry .head) 0 q (e .past))) _ both) in
+      record {
+        event = e .event;
+        past = e .past;
+        there = e .there;
+        confirms = e .holds;
         reached-all = λ {q} cq. correct-at (λ q. received 2 c 0 q (e .past)) all-got cq;
         near = λ {p} {q} cp cq. leb-true _ _ (correct-at (λ q. leb (distance (lastStart (e .past) c p) (lastStart (e .past) c q)) (g .tightness))
-          (correct-at (λ p. correctAll g (λ q. leb (distance (lastStart (e .past) c p) (lastStart (e .past) c q)) (g .tightness))) all-near cp) cq) }
+            (correct-at (λ p. correctAll g (λ q. leb (distance (lastStart (e .past) c p) (lastStart (e .past) c q)) (g .tightness))) all-near cp) cq);
+      }
 
   pub start-known : {s : History} → Earlier s h → {q : ℕ} (c : ℕ) → CorrectHead g q → took 3 c s ≡ true → recordOf g s q .vote .closed ≡ false → StartAt g s q c
   start-known {s} x {q} c cq t o =
@@ -183,24 +189,31 @@ module _ {g : Setting} {h : History} (r : Round g h) where
     where
       x : Speech
       x = speechOf (baseOf g s e) (t .action)
+
       m : HeadRecord
       m = prepared (baseOf g s e) (t .action)
+
       is-open : isClosed (baseOf g s e) (t .action) ≡ false
       is-open = closed-last _ _ (t .action) ∙ t .is-open
+
       own-is : m .own ≡ e .entry .head
       own-is = fixed g v (e .entry .head) .own-is
+
       own-below : m .own < length (m .senders)
       own-below =
           let size = prepared-same (baseOf g s e) (t .action) .size ∙ fixed g v (e .entry .head) .size-is in
           let eq = own-is in let l = t .head-below in let z = r .sheet .at-most-16 in omega arith
+
       -- a reading of the record after the speech
       reads : (f : HeadRecord → OptReading) → voteOf (utter x m .after) (m .own) ≡ f (utter x m .after)
           → voteOf (recordOf g (e ∷ s) (e .entry .head)) (e .entry .head) ≡ f (recordOf g (e ∷ s) (e .entry .head))
       reads f u =
           rw (record-at g e s) (of-effect g (λ y. voteOf (y .after) (e .entry .head) ≡ f (y .after)) t
           (subst (λ (q : ℕ). voteOf (utter x m .after) q ≡ f (utter x m .after)) own-is u))
+
       choice : held g votes (e ∷ s) (e .entry .head) ≡ chosenBy (said votes x) (m .vote) .choice
       choice = ap (λ (p : Phase). p .choice) (phase-at g votes t)
+
       go : (n : OptNumber) → said votes x ≡ n → OwnReading s e
       go NoNumber u =
           same-reading (choice ∙ rw u refl)

@@ -301,8 +301,12 @@ spoken-lead r m a cl ch tu ca =
     let t3 = and-right (not (m .vote .closed)) _ t2 in
     let none : r .vote .choice ≡ NoNumber = sym ch ∙ no-number _ (not-true (and-left (not (isNumber (m .vote .choice))) _ t3)) in
     let unclosed = not-true (and-left (not (m .vote .closed)) _ t2) in
-    says-vote (record { is-open = sym cl ∙ unclosed; stays-open = sym ca ∙ unclosed; higher = rw none refl;
-      why = itself refl none (sym tu ∙ and-left (m .vote .turn) _ t) }))
+    says-vote (record {
+      is-open = sym cl ∙ unclosed;
+      stays-open = sym ca ∙ unclosed;
+      higher = rw none refl;
+      why = itself refl none (sym tu ∙ and-left (m .vote .turn) _ t);
+    }))
     (λ _. says-nothing)
 
 -- a delivered frame, passed over or taken

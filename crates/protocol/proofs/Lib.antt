@@ -12,4 +12,5 @@ pub mod Adjustments
 pub mod Agreement
 pub mod Precision
 pub mod ThirdPoint
+pub mod ResultWords
 pub mod Marked

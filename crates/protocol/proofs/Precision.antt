@@ -118,7 +118,8 @@ module _ {g : Setting} {h : History} (r : Round g h) where
   start-stays {m} c q (later {e = e} {h = s} y) x t cq =
       let ih = start-stays c q y (earlier-past x) t cq in
       let none = no-late-start e c q x (any-grows (takes 3 c) y t) cq in
-      let v = valid-earlier x (r .sheet .valid) in
-      (by-head (λ p. receives 2 c 0 p e ≡ false → startOf (recordOf g (e ∷ s) p) c ≡ startOf (recordOf g s p) c) e q
-      (λ u. start-same g (r .sheet .at-most-16) (valid-taken v) (valid-past v) c u) (λ d u. ap (λ (y : HeadRecord). startOf y c) (record-other g e s q d)) none ∙ ih .0,
-      rw none (ih .1))
+      let v = valid-earlier x (r .sheet .valid) in (
+        by-head (λ p. receives 2 c 0 p e ≡ false → startOf (recordOf g (e ∷ s) p) c ≡ startOf (recordOf g s p) c) e q
+            (λ u. start-same g (r .sheet .at-most-16) (valid-taken v) (valid-past v) c u) (λ d u. ap (λ (y : HeadRecord). startOf y c) (record-other g e s q d)) none ∙ ih .0,
+        rw none (ih .1),
+      )

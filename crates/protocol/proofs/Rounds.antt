@@ -47,8 +47,17 @@ kept-round g h a e =
     let e6 = and-right (premise5 g h) _ e5 in
     let e7 = and-right (premise6 g h) _ e6 in
     let e8 = and-right (premise7 g h) _ e7 in
-    record { sheet = a; p1 = and-left (premise1 g) _ e1; p2 = and-left (premise2 g h) _ e2; p3 = and-left (premise3 g h) _ e3; p4 = and-left (premise4 g h) _ e4;
-      p5 = and-left (premise5 g h) _ e5; p6 = and-left (premise6 g h) _ e6; p7 = and-left (premise7 g h) _ e7; p8 = and-left (premise8 g h) _ e8 }
+    record {
+      sheet = a;
+      p1 = and-left (premise1 g) _ e1;
+      p2 = and-left (premise2 g h) _ e2;
+      p3 = and-left (premise3 g h) _ e3;
+      p4 = and-left (premise4 g h) _ e4;
+      p5 = and-left (premise5 g h) _ e5;
+      p6 = and-left (premise6 g h) _ e6;
+      p7 = and-left (premise7 g h) _ e7;
+      p8 = and-left (premise8 g h) _ e8;
+    }
 
 module _ {g : Setting} where
   pub correct-at : (p : ℕ → Bool) → correctAll g p ≡ true → {q : ℕ} → CorrectHead g q → p q ≡ true
@@ -135,10 +144,12 @@ module _ {g : Setting} {h : History} (r : Round g h) where
   votes-heard {q} c =
       let s = moment r votes in
       let e = correct-at (λ p. (took 5 p s || (took 1 p s && (took 3 p s && took 4 p s))) && ((took 1 p s ⇒ correctAll g (λ q. received 2 p 0 q s)) && reached g 5 (recordOf g s p .vote .sent) s p))
-          (implied (any (correctTakes g 6) h) _ (r .p5) (has-close r votes)) c in
-      let e2 = and-right (took 5 q s || (took 1 q s && (took 3 q s && took 4 q s))) _ e in
-      (and-left (took 5 q s || (took 1 q s && (took 3 q s && took 4 q s))) _ e, and-left (took 1 q s ⇒ correctAll g (λ p. received 2 q 0 p s)) _ e2,
-      and-right (took 1 q s ⇒ correctAll g (λ p. received 2 q 0 p s)) _ e2)
+      (implied (any (correctTakes g 6) h) _ (r .p5) (has-close r votes)) c in
+      let e2 = and-right (took 5 q s || (took 1 q s && (took 3 q s && took 4 q s))) _ e in (
+        and-left (took 5 q s || (took 1 q s && (took 3 q s && took 4 q s))) _ e,
+        and-left (took 1 q s ⇒ correctAll g (λ p. received 2 q 0 p s)) _ e2,
+        and-right (took 1 q s ⇒ correctAll g (λ p. received 2 q 0 p s)) _ e2,
+      )
 
   pub adjusts-heard : {q : ℕ} → CorrectHead g q → (took 7 q (moment r adjusts) ≡ true) × (reached g 8 (sent g adjusts (moment r adjusts) q) (moment r adjusts) q ≡ true)
   unfolding premise7 adjustsHeard
@@ -209,6 +220,7 @@ module _ {g : Setting} {h : History} (r : Round g h) (k : Kind) where
         silent : (x : Spoke g k s e) → CorrectHead g (e .entry .head) → Origin g k s e (x .choice) → ⊥
         silent x c (own is none tu) = none-is-some (sym none ∙ z (e .entry .head) c)
         silent x c (heard a n) = absurd-bool (finds c a) (x .was-open)
+
         go : CorrectHead g (e .entry .head) → Turn g k s e → held g k (e ∷ s) (e .entry .head) ≡ SomeNumber chosen
         go c (quiet x) = x .held-same ∙ z (e .entry .head) c
         go c (spoke x) = absurd (silent x c (x .origin))

@@ -80,6 +80,7 @@ waiting-effect r (StartDelivered p) w = go (r .adjust .closed)
   where
     l : List Sender
     l = set (r .senders) p (keptAfter r p Start)
+
     go : (b : Bool) → Waiting (utter (cond b nothing (cond (mayLead (withSenders r l)) (voting (r .own)) nothing)) (withSenders r (cond b (r .senders) l)) .after)
     go true = w
     go false = waiting-lead (withSenders r l) (r .own)
@@ -125,6 +126,7 @@ module _ (g : Setting) (small : g .n ≤ 16) where
     where
       x : Frame
       x = frameOf s (e .entry)
+
       other : eqb (e .entry .sender) v ≡ true → eqb (deliveredBy x) 2 ≡ false
       other d =
           cases (eqb (deliveredBy x) 2)
@@ -137,6 +139,7 @@ module _ (g : Setting) (small : g .n ≤ 16) where
           action-two : (b : Bool) → cond b (e .entry .action) 0 ≡ 2 → e .entry .action ≡ 2
           action-two true u = u
           action-two false u = absurd (omega arith)
+
       go : (i d : Bool) → eqb (e .entry .sender) v ≡ d → cond (not i && d) (keptAfter (baseOf g s e) (e .entry .sender) x) (keptOf (recordOf g s (e .entry .head)) v) .start ≡ startOf (recordOf g s (e .entry .head)) v
       go true d u = refl
       go false false u = refl
@@ -154,8 +157,10 @@ module _ (g : Setting) (small : g .n ≤ 16) where
     where
       was-open : recordOf g (e ∷ s) (e .entry .head) .adjust .closed ≡ false → recordOf g s (e .entry .head) .adjust .closed ≡ false
       was-open o = closed-took g adjusts w (e .entry .head) ∙ or-right (takes 9 (e .entry .head) e) _ (sym (closed-took g adjusts (more t w) (e .entry .head)) ∙ o)
+
       on : {q : ℕ} → startOf (recordOf g (e ∷ s) q) v ≡ startOf (recordOf g s q) v → receives 2 v 0 q e ≡ false → StartAt g s q v → StartAt g (e ∷ s) q v
       on eq none b = record { event = b .event; past = b .past; there = later (b .there); is-start = b .is-start; reading-is = eq ∙ b .reading-is; time-is = rw none (b .time-is) }
+
       go : (b : Bool) → receives 2 v 0 (e .entry .head) e ≡ b → received 2 v 0 (e .entry .head) (e ∷ s) ≡ true
           → (received 2 v 0 (e .entry .head) s ≡ true → recordOf g s (e .entry .head) .adjust .closed ≡ false → StartAt g s (e .entry .head) v)
           → recordOf g s (e .entry .head) .adjust .closed ≡ false → StartAt g (e ∷ s) (e .entry .head) v

@@ -58,11 +58,14 @@ module _ {g : Setting} {h : History} (r : Round g h) where
       let x = start-known r (moment-earlier r votes) candidate c confirmed (still-open r votes now c) in
       let stays = start-stays r candidate q (moment-earlier r votes) now confirmed c in
       let chose = candidate-stays r now (has-close r votes) c in
-      record { candidate-is = chose; adjuster-is = adjuster-stays r now (has-close r adjusts) c;
+      record {
+        candidate-is = chose;
+        adjuster-is = adjuster-stays r now (has-close r adjusts) c;
         closed = closed-took g adjusts (r .sheet .valid) q ∙ closes r adjusts c;
         start = x;
         reading-is = rw chose (stays .0 ∙ x .reading-is);
-        time-is = stays .1 ∙ x .time-is }
+        time-is = stays .1 ∙ x .time-is;
+      }
 
   has-clock : {q : ℕ} → CorrectHead g q → outcome (recordOf g h q) ≡ 2
   unfolding outcome
@@ -78,7 +81,7 @@ module _ {g : Setting} {h : History} (r : Round g h) where
       let b = ends c .start in
       let v = r .sheet .valid in
       let open-then : took 9 q (moment r votes) ≡ false =
-          sym (closed-took g adjusts (valid-moment r votes) q) ∙ adjust-later r (valid-moment r votes) q (c .is-head) (still-open r votes now c) in
+      sym (closed-took g adjusts (valid-moment r votes) q) ∙ adjust-later r (valid-moment r votes) q (c .is-head) (still-open r votes now c) in
       let closed-now : took 9 q (k .earlier) ≡ true = sym (closed-took g adjusts (valid-earlier (earlier-past x) v) q) ∙ k .closed in
       let since = later-moment (takes 9 q) (moment-earlier r votes) (earlier-past x) open-then closed-now in
       steady r x (earlier-trans (b .there) since) c (k .at-head) (eqb-true _ q (and-left (eqb (b .event .entry .head) q) _ (and-left (takes 2 q (b .event)) _ (b .is-start))))
@@ -89,7 +92,7 @@ module _ {g : Setting} {h : History} (r : Round g h) where
   before-confirm k q c =
       let three : k .event .entry .action ≡ 3 = eqb-true _ 3 (and-right (eqb (k .event .entry .head) candidate) _ (k .confirms)) in
       let no-start : receives 2 candidate 0 q (k .event) ≡ false = cases (receives 2 candidate 0 q (k .event))
-          (λ u. absurd (let two : k .event .entry .action ≡ 2 = eqb-true _ 2 (and-right (eqb (k .event .entry .head) q) _ (and-left (takes 2 q (k .event)) _ u)) in omega arith)) (λ u. u) in
+      (λ u. absurd (let two : k .event .entry .action ≡ 2 = eqb-true _ 2 (and-right (eqb (k .event .entry .head) q) _ (and-left (takes 2 q (k .event)) _ u)) in omega arith)) (λ u. u) in
       start-stays r candidate q (k .there) (moment-earlier r votes) (or-first (takes 3 candidate (k .event)) _ (k .confirms)) c .1 ∙ rw no-start refl
 
   -- the two last deliveries of the chosen start lie within the tightness
@@ -113,27 +116,34 @@ module _ {g : Setting} {h : History} (r : Round g h) where
     where
       P : Ends p
       P = ends cp
+
       Q : Ends q
       Q = ends cq
+
       a : Reading
       a = P .start .event .entry .reading
+
       b : Reading
       b = Q .start .event .entry .reading
+
       received : ℕ → ℕ
       received q = lastStart h (numberOr0 (recordOf g h q .vote .choice)) q
+
       Within : OptReading → OptReading → Reading → ℕ → ℕ → Type 0
       Within x y z s t =
           1000000 * apart (pos (d .entry .reading .0) +ℤ subℕ (recordOf g h p .adjustment .0) (readingOr0 x)) (pos (e .entry .reading .0) +ℤ subℕ (z .0) (readingOr0 y))
           ≤ 1000000 * (g .tightness + 2) + g .drift * ((d .entry .time .0 - s) + (e .entry .time .0 - t))
+
       over : (k x y m n : ℕ) → m ≤ n + (k * x + k * y) → m ≤ n + k * (x + y)
       over k x y m n h = omega arith
+
       at-starts : Within (SomeReading a) (SomeReading b) (recordOf g h p .adjustment) (P .start .event .entry .time .0) (Q .start .event .entry .time .0)
       at-starts =
           let close = triangle (d .entry .reading .0) (P .start .event .entry .time .0) (a .0) (e .entry .reading .0) (Q .start .event .entry .time .0) (b .0) (d .entry .time .0)
-              (g .drift * (d .entry .time .0 - P .start .event .entry .time .0)) (g .drift * (e .entry .time .0 - Q .start .event .entry .time .0)) (g .tightness) (recordOf g h p .adjustment .0)
-              (leb-true _ _ (steady-look cp kp))
-              (subst (λ (z : ℕ). 1000000 * distance (e .entry .reading .0 + Q .start .event .entry .time .0) (b .0 + z) ≤ g .drift * (e .entry .time .0 - Q .start .event .entry .time .0) + 1000000)
-              (sym same) (leb-true _ _ (steady-look cq kq))) (near-starts cp cq) in
+          (g .drift * (d .entry .time .0 - P .start .event .entry .time .0)) (g .drift * (e .entry .time .0 - Q .start .event .entry .time .0)) (g .tightness) (recordOf g h p .adjustment .0)
+          (leb-true _ _ (steady-look cp kp))
+          (subst (λ (z : ℕ). 1000000 * distance (e .entry .reading .0 + Q .start .event .entry .time .0) (b .0 + z) ≤ g .drift * (e .entry .time .0 - Q .start .event .entry .time .0) + 1000000)
+          (sym same) (leb-true _ _ (steady-look cq kq))) (near-starts cp cq) in
           subst (λ (x : ℕ). 1000000 * x ≤ 1000000 * (g .tightness + 2) + g .drift * ((d .entry .time .0 - P .start .event .entry .time .0) + (e .entry .time .0 - Q .start .event .entry .time .0)))
           (sym (apart-distance (d .entry .reading .0) (recordOf g h p .adjustment .0) (a .0) (e .entry .reading .0) (recordOf g h p .adjustment .0) (b .0)))
           (over (g .drift) _ _ _ _ close)
@@ -145,7 +155,8 @@ module _ {g : Setting} {h : History} (r : Round g h) where
     same-candidate = λ cp cq. ap numberOr0 (ends cp .candidate-is ∙ sym (ends cq .candidate-is));
     same-adjuster = λ cp cq. ap numberOr0 (ends cp .adjuster-is ∙ sym (ends cq .adjuster-is));
     same-adjustment = λ cp cq. ap (λ (x : Reading). x .0) (same-adjustment cp cq);
-    clocks-together = clocks-together }
+    clocks-together = clocks-together;
+  }
 
 -- the judge's answer is about the run's history
 kept-run : (ws : List ℕ) (h : History) → runSheet ws ≡ ran h → judge ws ≡ Kept → firstBroken 1 (premises (settingAt ws) h) ≡ Kept
