@@ -13,4 +13,5 @@ pub mod Agreement
 pub mod Precision
 pub mod ThirdPoint
 pub mod ResultWords
+pub mod Attained
 pub mod Marked
