@@ -39,6 +39,9 @@ pub and-right : (a b : Bool) → (a && b) ≡ true → b ≡ true
 and-right true b e = e
 and-right false b e = absurd-bool e refl
 
+-- for `search`: a part of a test that holds, holds
+pub ruleset parts = (and-left, and-right)
+
 pub and-both : {a b : Bool} → a ≡ true → b ≡ true → (a && b) ≡ true
 and-both p q = rw p q
 
