@@ -21,6 +21,9 @@ shifted x y m n e =
 pub difference-of : (x y : ℕ) → Difference x y (subℕ x y)
 difference-of x y = shifted x y x y (omega arith)
 
+pub difference-pos : (n : ℕ) → Difference n 0 (pos n)
+difference-pos n = up n (omega arith)
+
 pub difference-neg : {x y : ℕ} {z : ℤ} → Difference x y z → Difference y x (negℤ z)
 difference-neg (up zero d) = up zero (omega arith)
 difference-neg (up (suc n) d) = down n d
