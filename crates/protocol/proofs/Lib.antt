@@ -1,7 +1,11 @@
 -- What is proved of the definitions.
 pub mod Tests
+pub mod Signed
 pub mod Moments
 pub mod Effects
+pub mod Laws
+pub mod Causes
+pub mod Fits
 pub mod Valid
 pub mod Ranges
 pub mod Phases

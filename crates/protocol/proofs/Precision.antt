@@ -2,63 +2,34 @@
 -- the look, at each of the two heads; the two deliveries lie within the tightness; the rest is the triangle inequality.
 -- Main results: `apart-distance` (D without signs), `triangle`, `steady`, `start-stays`.
 use mathlib.Core.Path.{_≡_, refl, sym, _∙_, ap, subst}
-use mathlib.Core.Bool.{Bool, true, false, cond, not, _&&_, _||_}
-use mathlib.Core.List.{List, [], _∷_, _++_}
-use Prim.Native.Nat.{ℕ, zero, suc, _+_, _-_, _*_, _≤_, _<_}
+use mathlib.Core.Bool.{true, false}
+use mathlib.Core.List.{_∷_}
+use Prim.Native.Nat.{ℕ, _+_, _*_, _≤_}
 use native.Mathlib.Omega.{arith}
-use lib.Dec.{ltb, leb, eqb}
-use lib.IntN.{ℤ, pos, negsuc, negℤ, natAbs, subℕ, _+ℤ_, _-ℤ_}
-use borrow.Author.Tests.{eqb-true, eqb-false, eq-eqb, leb-true, ltb-true, ltb-false}
-use Rattle.protocol.specs.Base.{_⇒_, any, all, distance}
-use Rattle.protocol.specs.Types.{Reading, OptReading, NoReading, SomeReading, OptNumber, NoNumber, SomeNumber, HeadRecord, Setting}
+use lib.Dec.{eqb}
+use lib.IntN.{pos, subℕ, _+ℤ_}
+use borrow.Author.Tests.{eqb-true}
+use Rattle.protocol.specs.Base.{_⇒_, distance}
+use Rattle.protocol.specs.Types.{HeadRecord, Setting}
 use Rattle.protocol.specs.Words.{isCorrect}
 use Rattle.protocol.specs.Record.{startOf}
-use Rattle.protocol.specs.Run.{Event, History, recordOf, lastTime}
-use Rattle.protocol.specs.Premises.{takes, receives, took, received, each, correctTakes, premise2, premise3, isSteady, lastStart, startHeard}
-use Rattle.protocol.specs.Claim.{CorrectHead, LookedAt, apart}
-use Rattle.protocol.proofs.Tests.{absurd-bool, cases, cond-elim, and-left, and-right, and-both, or-first, or-second, or-right, or-cases, implied, not-true, eqb-same, In, all-in}
-use Rattle.protocol.proofs.Moments.{Earlier, now, later, earlier-trans, earlier-past, earlier-in, earlier-append, any-grows, each-at, later-moment}
-use Rattle.protocol.proofs.Effects.{Kind, votes, adjusts}
-use Rattle.protocol.proofs.Valid.{Valid, start, more, valid-past, valid-taken, valid-earlier, Taken, record-at, record-other, by-head, closed-took}
-use Rattle.protocol.proofs.Starts.{StartAt, start-same}
-use Rattle.protocol.proofs.Rounds.{Round, moment, moment-earlier, valid-moment, still-open, none-closed}
+use Rattle.protocol.specs.Run.{Event, History, recordOf}
+use Rattle.protocol.specs.Premises.{takes, receives, took, correctTakes, premise3, isSteady, lastStart, startHeard}
+use Rattle.protocol.specs.Claim.{CorrectHead, apart}
+use Rattle.protocol.proofs.Tests.{absurd-bool, cases, and-left, and-right, and-both, implied, not-true}
+use Rattle.protocol.proofs.Signed.{difference-of, difference-pos, difference-add, difference-sub, difference-abs}
+use Rattle.protocol.proofs.Moments.{Earlier, now, later, earlier-past, any-grows, each-at}
+use Rattle.protocol.proofs.Laws.{any-two-entries-steady}
+use Rattle.protocol.proofs.Valid.{valid-past, valid-taken, valid-earlier, record-other, by-head}
+use Rattle.protocol.proofs.Starts.{start-same}
+use Rattle.protocol.proofs.Rounds.{Round}
 
--- SIGNED NUMBERS
-
--- z is the difference u − v
-abbrev IsDifference : ℤ → ℕ → ℕ → Type 0
-IsDifference (pos n) u v = u ≡ v + n
-IsDifference (negsuc n) u v = v ≡ u + suc n
-
-difference-sub : (a b : ℕ) → IsDifference (subℕ a b) a b
-difference-sub a b = cond-elim (λ (z : ℤ). IsDifference z a b) (ltb a b) (λ t. let l = ltb-true a b t in omega arith) (λ t. let l = ltb-false a b t in omega arith)
-
--- the difference of two numbers whose difference is that of u and v
-difference-same : (a b u v : ℕ) → a + v ≡ b + u → IsDifference (subℕ a b) u v
-difference-same a b u v e =
-    cond-elim (λ (z : ℤ). IsDifference z u v) (ltb a b) (λ t. let l = ltb-true a b t in omega arith) (λ t. let l = ltb-false a b t in omega arith)
-
-difference-add : (x y : ℤ) (u v s t : ℕ) → IsDifference x u v → IsDifference y s t → IsDifference (x +ℤ y) (u + s) (v + t)
-difference-add (pos m) (pos n) u v s t a b = omega arith
-difference-add (pos m) (negsuc n) u v s t a b = difference-same m (suc n) (u + s) (v + t) (omega arith)
-difference-add (negsuc m) (pos n) u v s t a b = difference-same n (suc m) (u + s) (v + t) (omega arith)
-difference-add (negsuc m) (negsuc n) u v s t a b = omega arith
-
-difference-neg : (x : ℤ) (u v : ℕ) → IsDifference x u v → IsDifference (negℤ x) v u
-difference-neg (pos zero) u v a = omega arith
-difference-neg (pos (suc n)) u v a = a
-difference-neg (negsuc n) u v a = a
-
-difference-abs : (x : ℤ) (u v : ℕ) → IsDifference x u v → natAbs x ≡ distance u v
-difference-abs (pos n) u v a = omega arith
-difference-abs (negsuc n) u v a = omega arith
+-- D WITHOUT SIGNS
 
 -- the distance of x + (a − s) and y + (b − t) is that of x + a + t and y + b + s
 pub apart-distance : (x a s y b t : ℕ) → apart (pos x +ℤ subℕ a s) (pos y +ℤ subℕ b t) ≡ distance (x + a + t) (y + b + s)
 apart-distance x a s y b t =
-    let left = difference-add (pos x) (subℕ a s) x 0 a s (omega arith) (difference-sub a s) in
-    let right = difference-neg (pos y +ℤ subℕ b t) (y + b) (0 + t) (difference-add (pos y) (subℕ b t) y 0 b t (omega arith) (difference-sub b t)) in
-    difference-abs (pos x +ℤ subℕ a s -ℤ (pos y +ℤ subℕ b t)) _ _ (difference-add (pos x +ℤ subℕ a s) (negℤ (pos y +ℤ subℕ b t)) (x + a) (0 + s) (0 + t) (y + b) left right)
+    difference-abs (difference-sub (difference-add (difference-pos x) (difference-of a s)) (difference-add (difference-pos y) (difference-of b t)))
     ∙ regroup (x + a) s t (y + b)
   where
     regroup : (p s t q : ℕ) → distance (p + (0 + t)) (0 + s + q) ≡ distance (p + t) (q + s)
@@ -92,11 +63,7 @@ triangle e s a d t b z x y w c h k l =
 module _ {g : Setting} {h : History} (r : Round g h) where
   pub steady : {s past : History} {d e : Event} {q : ℕ} → Earlier (e ∷ s) h → Earlier (d ∷ past) s → CorrectHead g q → e .entry .head ≡ q → d .entry .head ≡ q
       → isSteady (g .drift) (d .entry) (e .entry) ≡ true
-  unfolding premise2
-  steady {s} {past} {d} {e} x y c eh dh =
-      implied (eqb (d .entry .head) (e .entry .head)) _ (all-in (λ d. eqb (d .entry .head) (e .entry .head) ⇒ isSteady (g .drift) (d .entry) (e .entry)) (earlier-in y)
-      (implied (isCorrect g (e .entry .head)) _ (each-at _ (r .p2) x) (ap (isCorrect g) eh ∙ c .is-correct)))
-      (eq-eqb _ _ (dh ∙ sym eh))
+  steady x y c eh dh = any-two-entries-steady g (r .p2) x y (ap (isCorrect g) eh ∙ c .is-correct) (dh ∙ sym eh)
 
   -- no start of c reaches a correct head once c has confirmed it
   no-late-start : {s : History} (e : Event) (c q : ℕ) → Earlier (e ∷ s) h → took 3 c s ≡ true → CorrectHead g q → receives 2 c 0 q e ≡ false

@@ -20,8 +20,8 @@ use Rattle.protocol.specs.Words.{headsFit}
 use Rattle.protocol.specs.Record.{isReading, isNumber, readingOr0, numberOr0, reading, noSender, keptOf, startOf, voteOf, fresh, readingInRange, serialInRange, senderInRange, senderIsNone, sentInRange, phaseInRange, marksInRange, recordInRange}
 use Rattle.protocol.specs.Median.{insert, inOrder, median}
 use Rattle.protocol.specs.Step.{withVoteReading, withLast, accepted, vote, adjust, prepend, voteReadings, outranks, effect, isClosed, takeAction, actionsOf, actionOf, inputFits, step}
-use Rattle.protocol.specs.Run.{Event, History, recordOf, isDeliveredBy, orElse, frameSent, carriedReading}
-use Rattle.protocol.proofs.Tests.{absurd-bool, cases, cond-elim, not-true, not-false, and-left, and-right, and-both, or-left, or-right, or-cases, implied, all-below, below-all}
+use Rattle.protocol.specs.Run.{History, recordOf, isDeliveredBy, orElse, frameSent, carriedReading}
+use Rattle.protocol.proofs.Tests.{absurd-bool, cases, cond-elim, not-true, not-false, parts, and-both, or-left, or-right, or-cases, implied, all-below, below-all}
 use Rattle.protocol.proofs.Effects.{Kind, votes, adjusts, phaseOf, takenOf, Delivery, noDelivery, deliveryIn, serialOf, named, ignored, keptAfter, prepared, Speech, utter, effect-split, Why, itself, told, Speaks, Source, computed, passed-on, Spoken, says-nothing, says-start, says-vote, says-adjust, no-number, spoken, none-is-some, closed-last}
 use Rattle.protocol.proofs.Valid.{baseOf, Valid, start, more, heads-fit, record-at, record-other, by-head, fixed}
 
@@ -83,9 +83,6 @@ for-both P v a votes = v
 for-both P v a adjusts = a
 
 -- THE TEST OF CAUSE 10 SAYS THE SAME
-
--- the parts of a test that holds
-ruleset parts = (and-left, and-right)
 
 reading-test : (x : OptReading) → readingInRange x ≡ ltb (readingOr0 x) (2 ^ 28)
 reading-test NoReading = refl

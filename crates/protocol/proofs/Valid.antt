@@ -4,24 +4,23 @@
 use mathlib.Core.Path.{_≡_, refl, sym, _∙_, ap, subst}
 use mathlib.Core.Bool.{Bool, true, false, cond, not, _&&_, _||_}
 use mathlib.Core.List.{List, [], _∷_}
-use Prim.Native.Nat.{ℕ, zero, suc, _+_, _-_, _*_, _/_, _%_, _^_, _≤_, _<_}
-use native.Mathlib.Nat.{not-suc-le-zero}
+use Prim.Native.Nat.{ℕ, zero, suc, _+_, _*_, _^_, _≤_, _<_}
 use native.Mathlib.Omega.{arith}
 use lib.Dec.{ltb, leb, eqb}
 use lib.ListN.{length, getD}
-use borrow.Author.Tests.{eqb-true, eqb-false, ltb-true, ltb-false, leb-true}
-use Rattle.protocol.specs.Base.{any}
-use Rattle.protocol.specs.Types.{Reading, OptReading, NoReading, SomeReading, Sender, HeadRecord, Setting, Entry, Input, Cause, TooManyWords, BadLength, BadFirstWord, BadEntry, TimeFell, ReadingFell, ActionClosed, Verdict, Accepted, Refused, Stepped, Frame, NoFrame, Start, Vote, Adjust}
-use Rattle.protocol.specs.Types.{Action, Look, StartSent, StartDelivered, StartConfirmed, VoteTurn, VoteDelivered, VoteClose, AdjustTurn, AdjustDelivered, AdjustClose}
-use Rattle.protocol.specs.Words.{bits, hasSender, hasSerial, zeroWhereUnused, headsFit, settingOf, firstWordFits, secondWordFits, entryOf, entryFits, settingAt, entryCount, placeOf, entryAt, entryFitsAt}
+use borrow.Author.Tests.{eqb-true, ltb-false, leb-true}
+use Rattle.protocol.specs.Types.{Reading, OptReading, NoReading, SomeReading, Sender, HeadRecord, Setting, Entry, Cause, BadEntry, TimeFell, ReadingFell, ActionClosed, Verdict, Accepted, Refused, Stepped, Frame, NoFrame, Start, Vote, Adjust}
+use Rattle.protocol.specs.Types.{Action, StartDelivered, VoteDelivered, AdjustDelivered}
+use Rattle.protocol.specs.Words.{bits, hasSender, zeroWhereUnused, headsFit, settingOf, firstWordFits, entryOf, entryFits, settingAt, entryCount, placeOf, entryAt, entryFitsAt}
 use Rattle.protocol.specs.Record.{keptOf, fresh, reading, readingOr0, isReading}
 use Rattle.protocol.specs.Step.{withVoteReading, withLast, accepted, refused, effect, isClosed, takeAction, actionOf}
 use Rattle.protocol.specs.Causes.{sheetVerdict}
 use Rattle.protocol.specs.Run.{Event, History, recordOf, isDeliveredBy, orElse, frameSent, frameOf, isFrame, carriedChoice, carriedReading, inputOf, lastTime, stepEntry, Run, stopped, ran, extend, andThen, runOf, afterVerdict, runSheet}
-use Rattle.protocol.specs.Premises.{takes, took}
-use Rattle.protocol.proofs.Tests.{absurd-bool, cases, cond-elim, and-left, and-right, and-both, or-left, or-right, not-true, not-false, eqb-same}
+use Rattle.protocol.specs.Premises.{took}
+use Rattle.protocol.proofs.Tests.{absurd-bool, cases, parts, and-left, and-right, or-left, or-right, not-false, eqb-same}
+use Rattle.protocol.proofs.Fits.{entry-fits, sheet-fits}
 use Rattle.protocol.proofs.Moments.{Earlier, now, later}
-use Rattle.protocol.proofs.Effects.{Kind, votes, adjusts, phaseOf, closing, number, Delivery, deliveryIn, deliveredBy, serialOf, utter, speechOf, prepared, effect-split, effect-accepted, marksOf, utter-marks, utter-same, utter-keeps, prepared-same, ignored, keptAfter, kept-after}
+use Rattle.protocol.proofs.Effects.{Kind, votes, adjusts, phaseOf, closing, number, deliveryIn, deliveredBy, serialOf, utter, speechOf, prepared, effect-split, effect-accepted, marksOf, utter-marks, utter-same, utter-keeps, prepared-same, ignored, keptAfter, kept-after}
 
 -- the record that the event's step worked on: its head's, with the reading already kept
 abbrev pub baseOf : Setting → History → Event → HeadRecord
@@ -157,17 +156,8 @@ pub record Fits (g : Setting) (e : Entry) : Type 0 where
 fits-entry : (g : Setting) (t a w : ℕ) → entryFits (g .n) t a w ≡ true → Fits g (entryOf t a w)
 unfolding entryFits entryOf
 fits-entry g t a w h =
-    let h5 = and-right (eqb (bits w 11 0) 0) _ (and-right (eqb (bits w 31 28) 5) _ (and-right (eqb (bits a 31 28) 4) _ (and-right (eqb (bits t 31 28) 3) _ h))) in
-    let h6 = and-right (leb (bits w 27 24) 9) _ h5 in
-    let h7 = and-right (ltb (bits w 23 20) (g .n)) _ h6 in
-    record {
-      action-below = leb-true _ _ (and-left (leb (bits w 27 24) 9) _ h5);
-      head-below = ltb-true _ _ (and-left (ltb (bits w 23 20) (g .n)) _ h6);
-      sender-below = ltb-true _ _ (and-left (ltb (bits w 19 16) (g .n)) _ h7);
-      serial-below = omega arith;
-      reading-below = omega arith;
-      zero-unused = and-right (ltb (bits w 19 16) (g .n)) _ h7;
-    }
+    let f = entry-fits (g .n) t a w h in
+    record { action-below = f .action; head-below = f .head; sender-below = f .sender; serial-below = omega arith; reading-below = omega arith; zero-unused = search parts depth 8 }
 
 accepted-cond : (b : Bool) (r : HeadRecord) (c : Cause) (t : Stepped) → cond b (refused r c) t .verdict ≡ Accepted
     → (b ≡ false) × (cond b (refused r c) t ≡ t) × (t .verdict ≡ Accepted)
@@ -238,17 +228,6 @@ valid-run ws (suc i) h e = go (runOf ws i) refl (valid-run ws i) e
     go (ran s) t ih u =
         valid-extend (settingAt ws) (placeOf i) s h (entryFitsAt ws i) (entryAt ws i) (fits-entry (settingAt ws) _ _ _) (ih s t) (stepEntry (settingAt ws) s (entryFitsAt ws i) (entryAt ws i) .verdict) refl u
 
-accepted-if : (b : Bool) (c : Cause) (x : Verdict) → cond b (Refused c) x ≡ Accepted → (b ≡ false) × (x ≡ Accepted)
-accepted-if true c x h = absurd (let z : _≡_ {A = ℕ} 0 1 = cc in omega arith)
-accepted-if false c x h = (refl, h)
-
-first-word-fits : (ws : List ℕ) → sheetVerdict ws ≡ Accepted → firstWordFits (getD ws 0 0) ≡ true
-unfolding sheetVerdict
-first-word-fits ws t =
-    let c1 = accepted-if (ltb 12290 (length ws)) TooManyWords _ t in
-    let c2 = accepted-if (ltb (length ws) 2 || not (eqb ((length ws - 2) % 3) 0)) BadLength _ (c1 .1) in
-    not-false (accepted-if (not (firstWordFits (getD ws 0 0))) BadFirstWord _ (c2 .1) .0)
-
 -- an accepted sheet: its numbers of heads and faults, and its history
 pub record Sheet (g : Setting) (h : History) : Type 0 where
   pub at-least-two : 2 ≤ g .n
@@ -267,7 +246,7 @@ unfolding runSheet settingOf firstWordFits
 accepted-sheet ws h e = go (sheetVerdict ws) refl e
   where
     first-word : sheetVerdict ws ≡ Accepted → headsFit (settingAt ws .n) (settingAt ws .f) ≡ true
-    first-word t = and-left (headsFit (bits (getD ws 0 0) 27 20) (bits (getD ws 0 0) 19 16)) _ (and-right (eqb (bits (getD ws 0 0) 31 28) 1) _ (first-word-fits ws t))
+    first-word t = and-left (headsFit (bits (getD ws 0 0) 27 20) (bits (getD ws 0 0) 19 16)) _ (and-right (eqb (bits (getD ws 0 0) 31 28) 1) _ (sheet-fits ws t .first-word))
 
     go : (x : Verdict) → sheetVerdict ws ≡ x → afterVerdict x (runOf ws (entryCount ws)) ≡ ran h → Sheet (settingAt ws) h
     go (Refused c) t u = absurd (let z : _≡_ {A = ℕ} 0 1 = cc in omega arith)

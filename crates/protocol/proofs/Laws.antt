@@ -1,0 +1,273 @@
+-- What document 01 says of a step, of outcomes and of drift where the marked cases would not show a slip: rank, serials,
+-- reading 0, a repeated start, what a vote carries, "no effect", marks set once, what outcome 2 asks, the last reading and
+-- refusals, and drift between any two entries. Each law stands by itself, under the passage that it renders.
+use mathlib.Core.Path.{_≡_, refl, sym, _∙_, ap, ap₂}
+use mathlib.Core.Bool.{Bool, true, false, cond, not, _&&_, _||_}
+use mathlib.Core.List.{[], _∷_}
+use mathlib.Core.Logic.{_≢_}
+use Prim.Native.Nat.{ℕ, suc, _+_, _-_, _*_, _^_, _≤_, _<_, min}
+use native.Mathlib.Omega.{arith}
+use lib.Dec.{ltb, leb, eqb}
+use lib.IntN.{natAbs, subℕ, _-ℤ_}
+use lib.ListN.{length}
+use lib.Seq.{getD-set-same, getD-set-other}
+use borrow.Author.Tests.{lt-ltb, le-ltb, ltb-true, ltb-false, eq-eqb, ne-eqb}
+use Rattle.protocol.specs.Base.{_⇒_}
+use Rattle.protocol.specs.Types.{Reading, OptReading, NoReading, SomeReading, OptNumber, NoNumber, SomeNumber, Sender, Phase, HeadRecord, Setting, Entry}
+use Rattle.protocol.specs.Types.{Stepped, Vote, Accepted, Refused, Cause, Input}
+use Rattle.protocol.specs.Types.{Action, StartSent, StartDelivered, StartConfirmed, VoteTurn, VoteDelivered, VoteClose, AdjustTurn, AdjustDelivered, AdjustClose}
+use Rattle.protocol.specs.Words.{isCorrect}
+use Rattle.protocol.specs.Record.{isReading, isNumber, readingOr0, numberOr0, reading, noSender, keptOf, startOf, voteOf, startOfChoice, chosenStart, outcome, recordInRange}
+use Rattle.protocol.specs.Step.{withVoteReading, withVoted, withLast, silent, refused, vote, adjust, mayLead, lead, voteReadings, mayAdjust, propose, isAbove, outranks, delivered, effect, isClosed, takeAction, actionOf, inputFits, step}
+use Rattle.protocol.specs.Run.{Event, History}
+use Rattle.protocol.specs.Results.{ifAdopted, outcomeWord, adjustmentWord, startWord, headWords}
+use Rattle.protocol.specs.Premises.{isSteady, premise2}
+use Rattle.protocol.proofs.Tests.{absurd-bool, cond-elim, not-false, and-left, and-right, or-left, or-right, or-first, or-second, implied, eqb-same, all-in}
+use Rattle.protocol.proofs.Moments.{Earlier, earlier-in, each-at}
+use Rattle.protocol.proofs.Effects.{prepared, speechOf, effect-split, utter-same, set-keeps, effect-accepted}
+use Rattle.protocol.proofs.Signed.{difference-of, difference-sub, difference-abs}
+
+-- serial k is above the last one taken, if any was
+abbrev pub Above : ℕ → OptNumber → Type 0
+Above k last = (j : ℕ) → last ≡ SomeNumber j → j < k
+
+not-above : (k j : ℕ) → k ≤ j → isAbove k (SomeNumber j) ≡ false
+not-above k j h = le-ltb j k h
+
+is-above : (k : ℕ) (last : OptNumber) → Above k last → isAbove k last ≡ true
+is-above k NoNumber h = refl
+is-above k (SomeNumber j) h = lt-ltb j k (h j refl)
+
+-- 5, and 8 "as 5": a vote or an adjust is delivered
+module _ (phase : Phase) (last : OptNumber) (k c : ℕ) (r taken : HeadRecord) (adopt : HeadRecord → Stepped) where
+  -- "No effect after the vote close": the record as it was, and no frame
+  pub no-effect-after-close : phase .closed ≡ true → delivered phase last k c r taken adopt ≡ silent r
+  unfolding delivered
+  no-effect-after-close e =
+      cond-elim (λ t. t ≡ silent r) (phase .closed || not (isAbove k last)) (λ _. refl) (λ t. absurd-bool e (or-left (phase .closed) _ t))
+
+  -- ".. or if the serial isn't above the last taken from that sender"
+  pub no-effect-of-old-serial : (j : ℕ) → last ≡ SomeNumber j → k ≤ j → delivered phase last k c r taken adopt ≡ silent r
+  unfolding delivered
+  no-effect-of-old-serial j e h =
+      cond-elim (λ t. t ≡ silent r) (phase .closed || not (isAbove k last)) (λ _. refl)
+      (λ t. absurd-bool (not-false (or-right (phase .closed) _ t)) (ap (isAbove k) e ∙ not-above k j h))
+
+  -- "Otherwise" it is taken, and adopted if its choice outranks the one held
+  taken-or-adopted : (P : Stepped → Type 0) → phase .closed ≡ false → Above k last
+      → (outranks c (phase .choice) ≡ true → P (adopt taken)) → (outranks c (phase .choice) ≡ false → P (silent taken))
+      → P (delivered phase last k c r taken adopt)
+  unfolding delivered
+  taken-or-adopted P o a f g =
+      cond-elim P (phase .closed || not (isAbove k last)) (λ t. absurd-bool t (rw (o, is-above k last a) refl))
+      (λ _. cond-elim P (outranks c (phase .choice)) f g)
+
+  -- "a carried one of higher rank (lower number)": of the number held and the number carried, the lower is held after
+  pub lower-number-held : (phaseOf : HeadRecord → Phase) → phaseOf taken .choice ≡ phase .choice → phaseOf (adopt taken .after) .choice ≡ SomeNumber c
+      → phase .closed ≡ false → Above k last → (v : ℕ) → phase .choice ≡ SomeNumber v
+      → phaseOf (delivered phase last k c r taken adopt .after) .choice ≡ SomeNumber (min c v)
+  lower-number-held phaseOf kept adopted o a v e =
+      taken-or-adopted (λ (t : Stepped). phaseOf (t .after) .choice ≡ SomeNumber (min c v)) o a
+      (λ t. let h = ltb-true c v (rw e at t) in adopted ∙ ap SomeNumber (omega arith))
+      (λ t. let h = ltb-false c v (rw e at t) in kept ∙ e ∙ ap SomeNumber (omega arith))
+
+-- the same of the candidate after a vote, and of the adjuster after an adjust
+pub candidate-after-vote : (r : HeadRecord) (p k c : ℕ) (x : OptReading) → r .vote .closed ≡ false → Above k (keptOf r p .voted)
+    → (v : ℕ) → r .vote .choice ≡ SomeNumber v → effect r (VoteDelivered p k c x) .after .vote .choice ≡ SomeNumber (min c v)
+unfolding effect vote
+candidate-after-vote r p k c x = lower-number-held (r .vote) (keptOf r p .voted) k c r _ (vote c) (λ s. s .vote) refl refl
+
+pub adjuster-after-adjust : (r : HeadRecord) (p k a : ℕ) (x : Reading) → r .adjust .closed ≡ false → Above k (keptOf r p .adjusted)
+    → (v : ℕ) → r .adjust .choice ≡ SomeNumber v → effect r (AdjustDelivered p k a x) .after .adjust .choice ≡ SomeNumber (min a v)
+unfolding effect adjust
+adjuster-after-adjust r p k a x = lower-number-held (r .adjust) (keptOf r p .adjusted) k a r _ (adjust a x) (λ s. s .adjust) refl refl
+
+-- leading changes the own vote reading and the vote phase alone
+lead-keeps-starts : (r : HeadRecord) (p : ℕ) → startOf (lead r .after) p ≡ startOf r p
+unfolding lead vote
+lead-keeps-starts r p =
+    cond-elim (λ (t : Stepped). startOf (t .after) p ≡ startOf r p) (mayLead r)
+    (λ _. set-keeps (λ k. k .start) (r .senders) (r .own) p _ refl) (λ _. refl)
+
+-- 2: "No effect after the adjust close"
+pub no-start-after-close : (r : HeadRecord) (p : ℕ) → r .adjust .closed ≡ true → effect r (StartDelivered p) ≡ silent r
+unfolding effect
+no-start-after-close r p e = cond-elim (λ t. t ≡ silent r) (r .adjust .closed) (λ _. refl) (λ t. absurd-bool e t)
+
+-- 2: "its start reading becomes this reading, again at each repeat": whatever was kept before
+pub start-replaced : (r : HeadRecord) (p : ℕ) → p < length (r .senders) → r .adjust .closed ≡ false
+    → startOf (effect r (StartDelivered p) .after) p ≡ SomeReading (r .last)
+unfolding effect
+start-replaced r p h o =
+    cond-elim (λ (t : Stepped). startOf (t .after) p ≡ SomeReading (r .last)) (r .adjust .closed) (λ t. absurd-bool t o)
+    (λ _. lead-keeps-starts _ p ∙ ap (λ (k : Sender). k .start) (getD-set-same (r .senders) p _ noSender h))
+
+-- "A reading of 0 is a reading": a start reading is held, whatever it is
+pub start-reading-counts : (r : HeadRecord) (p : ℕ) → p < length (r .senders) → r .adjust .closed ≡ false
+    → isReading (startOf (effect r (StartDelivered p) .after) p) ≡ true
+start-reading-counts r p h o = ap isReading (start-replaced r p h o)
+
+-- "A vote carries the candidate and h's own start reading of it, or the mark "none""
+pub vote-carries-start : (c : ℕ) (r : HeadRecord) → vote c r .frame ≡ Vote (r .vote .sent) c (startOf r c)
+unfolding vote
+vote-carries-start c r = refl
+
+-- "it is also h's own vote reading"
+pub own-vote-reading : (c : ℕ) (r : HeadRecord) → r .own < length (r .senders) → voteOf (vote c r .after) (r .own) ≡ startOf r c
+unfolding vote
+own-vote-reading c r h = ap (λ (k : Sender). k .vote) (getD-set-same (r .senders) (r .own) _ noSender h)
+
+-- "A reading of 0 is a reading": every vote reading held counts in the median, and "none" does not
+pub vote-reading-counts : (r : HeadRecord) (p : ℕ) (x : Reading) → voteOf r p ≡ SomeReading x → voteReadings r (suc p) ≡ x .0 ∷ voteReadings r p
+unfolding voteReadings
+vote-reading-counts r p x e = rw e refl
+
+pub none-does-not-count : (r : HeadRecord) (p : ℕ) → voteOf r p ≡ NoReading → voteReadings r (suc p) ≡ voteReadings r p
+unfolding voteReadings
+none-does-not-count r p e = rw e refl
+
+vote-keeps-others : (c : ℕ) (r : HeadRecord) (p : ℕ) → p ≢ r .own → keptOf (vote c r .after) p ≡ keptOf r p
+unfolding vote
+vote-keeps-others c r p d = getD-set-other (r .senders) (r .own) p _ noSender d
+
+-- a vote is delivered from another head p, with a serial above the last one taken, before the vote close
+module _ (r : HeadRecord) (p k c : ℕ) (x : OptReading) (h : p < length (r .senders)) (d : p ≢ r .own) (o : r .vote .closed ≡ false) (a : Above k (keptOf r p .voted)) where
+  vote-taken : keptOf (effect r (VoteDelivered p k c x) .after) p ≡ withVoted (withVoteReading (keptOf r p) x) k
+  unfolding effect
+  vote-taken =
+      taken-or-adopted (r .vote) (keptOf r p .voted) k c r _ (vote c) (λ (t : Stepped). keptOf (t .after) p ≡ withVoted (withVoteReading (keptOf r p) x) k) o a
+      (λ _. vote-keeps-others c _ p d ∙ getD-set-same (r .senders) p _ noSender h) (λ _. getD-set-same (r .senders) p _ noSender h)
+
+  -- 5: "the carried reading (or none) becomes the sender's vote reading"
+  pub vote-reading-taken : voteOf (effect r (VoteDelivered p k c x) .after) p ≡ x
+  vote-reading-taken = ap (λ (s : Sender). s .vote) vote-taken
+
+  pub carried-reading-counts : (y : Reading) → x ≡ SomeReading y
+      → voteReadings (effect r (VoteDelivered p k c x) .after) (suc p) ≡ y .0 ∷ voteReadings (effect r (VoteDelivered p k c x) .after) p
+  carried-reading-counts y e = vote-reading-counts (effect r (VoteDelivered p k c x) .after) p y (vote-reading-taken ∙ e)
+
+  -- its serial is then "the last taken from that sender", so a repeat has no effect
+  pub vote-serial-taken : keptOf (effect r (VoteDelivered p k c x) .after) p .voted ≡ SomeNumber k
+  vote-serial-taken = ap (λ (s : Sender). s .voted) vote-taken
+
+pub adjust-serial-taken : (r : HeadRecord) (p k a : ℕ) (x : Reading) → p < length (r .senders) → r .adjust .closed ≡ false → Above k (keptOf r p .adjusted)
+    → keptOf (effect r (AdjustDelivered p k a x) .after) p .adjusted ≡ SomeNumber k
+unfolding effect adjust
+adjust-serial-taken r p k a x h o b =
+    let stored = ap (λ (s : Sender). s .adjusted) (getD-set-same (r .senders) p _ noSender h) in
+    taken-or-adopted (r .adjust) (keptOf r p .adjusted) k a r _ (adjust a x) (λ (t : Stepped). keptOf (t .after) p .adjusted ≡ SomeNumber k) o b
+    (λ _. stored) (λ _. stored)
+
+-- "Closed if sender is h"
+pub own-frame-closed : (r : HeadRecord) (k c : ℕ) (x : OptReading) (y : Reading)
+    → (isClosed r (VoteDelivered (r .own) k c x) ≡ true) × (isClosed r (AdjustDelivered (r .own) k c y) ≡ true)
+unfolding isClosed
+own-frame-closed r k c x y = (eqb-same (r .own), eqb-same (r .own))
+
+lead-keeps-turn : (r : HeadRecord) → lead r .after .vote .turn ≡ r .vote .turn
+unfolding lead vote
+lead-keeps-turn r = cond-elim (λ (t : Stepped). t .after .vote .turn ≡ r .vote .turn) (mayLead r) (λ _. refl) (λ _. refl)
+
+propose-keeps-turn : (r : HeadRecord) → propose r .after .adjust .turn ≡ r .adjust .turn
+unfolding propose adjust
+propose-keeps-turn r = cond-elim (λ (t : Stepped). t .after .adjust .turn ≡ r .adjust .turn) (mayAdjust r) (λ _. refl) (λ _. refl)
+
+-- "already sent", "already confirmed", "already taken": each of the six marks is set once
+pub record SetOnce (r : HeadRecord) : Type 0 where
+  pub start-sent : isClosed (effect r StartSent .after) StartSent ≡ true
+  pub start-confirmed : isClosed (effect r StartConfirmed .after) StartConfirmed ≡ true
+  pub vote-turn : isClosed (effect r VoteTurn .after) VoteTurn ≡ true
+  pub vote-close : isClosed (effect r VoteClose .after) VoteClose ≡ true
+  pub adjust-turn : isClosed (effect r AdjustTurn .after) AdjustTurn ≡ true
+  pub adjust-close : isClosed (effect r AdjustClose .after) AdjustClose ≡ true
+
+pub marks-set-once : (r : HeadRecord) → SetOnce r
+unfolding isClosed effect
+marks-set-once r =
+    record {
+      start-sent = refl;
+      start-confirmed = or-second (not (r .started)) _ refl;
+      vote-turn = or-second (not (effect r VoteTurn .after .confirmed)) _ (lead-keeps-turn _);
+      vote-close = refl;
+      adjust-turn = or-second (not (effect r AdjustTurn .after .vote .closed)) _ (or-first (effect r AdjustTurn .after .adjust .turn) _ (propose-keeps-turn _));
+      adjust-close = or-second (not (r .vote .closed)) _ refl;
+    }
+
+-- 9: "Outcome 2 (adopted) if h has a candidate, its start reading and an adjuster; else 1"
+pub no-candidate-no-start : (r : HeadRecord) → r .vote .choice ≡ NoNumber → chosenStart r ≡ NoReading
+unfolding chosenStart
+no-candidate-no-start r e = ap (startOfChoice r) e
+
+outcome-1 : (r : HeadRecord) → r .adjust .closed ≡ true → (isReading (chosenStart r) && isNumber (r .adjust .choice)) ≢ true → outcome r ≡ 1
+unfolding outcome
+outcome-1 r c lacks =
+    cond-elim (λ o. o ≡ 1) (r .adjust .closed)
+    (λ _. cond-elim (λ o. o ≡ 1) (isReading (chosenStart r) && isNumber (r .adjust .choice)) (λ t. absurd (lacks t)) (λ _. refl)) (λ t. absurd-bool c t)
+
+pub outcome-1-without-start : (r : HeadRecord) → r .adjust .closed ≡ true → chosenStart r ≡ NoReading → outcome r ≡ 1
+outcome-1-without-start r c e = outcome-1 r c (λ t. absurd-bool (and-left (isReading (chosenStart r)) _ t) (ap isReading e))
+
+pub outcome-1-without-adjuster : (r : HeadRecord) → r .adjust .closed ≡ true → r .adjust .choice ≡ NoNumber → outcome r ≡ 1
+outcome-1-without-adjuster r c e = outcome-1 r c (λ t. absurd-bool (and-right (isReading (chosenStart r)) _ t) (ap isNumber e))
+
+-- "All fields but kind, outcome and head are zero unless the outcome is 2"
+pub words-unless-adopted : (q : ℕ) (r : HeadRecord) → outcome r ≢ 2
+    → headWords q r ≡ (6 * 2 ^ 28 + outcome r * 2 ^ 24 + q * 2 ^ 20) ∷ 7 * 2 ^ 28 ∷ 8 * 2 ^ 28 ∷ []
+unfolding outcomeWord adjustmentWord startWord
+words-unless-adopted q r n = ap₂ _∷_ (omega (arith, zero-field (numberOr0 (r .vote .choice)), zero-field (numberOr0 (r .adjust .choice))))
+    (ap₂ _∷_ (omega (arith, zero-field (r .adjustment .0))) (ap₂ _∷_ (omega (arith, zero-field (readingOr0 (chosenStart r)))) refl))
+  where
+    zero-field : (x : ℕ) → ifAdopted r x ≡ 0
+    zero-field x = ap (λ (b : Bool). cond b x 0) (ne-eqb (outcome r) 2 n)
+
+-- what is answered to an action, of a record r at the reading x: "Every accepted action makes its reading the last reading";
+-- a refusal leaves the record, and there is no frame
+pub record Answers (r : HeadRecord) (x : Reading) (t : Stepped) : Type 0 where
+  pub accepted-last-reading : t .verdict ≡ Accepted → t .after .last ≡ x
+  pub refused-unchanged : (c : Cause) → t .verdict ≡ Refused c → t ≡ refused r c
+
+effect-keeps-last : (r : HeadRecord) (a : Action) → effect r a .after .last ≡ r .last
+effect-keeps-last r a = ap (λ (t : Stepped). t .after .last) (effect-split r a) ∙ utter-same (speechOf r a) (prepared r a) .last
+
+answers-refused : (r : HeadRecord) (x : Reading) (c : Cause) → Answers r x (refused r c)
+answers-refused r x c =
+    record {
+      accepted-last-reading = λ e. absurd (let z : _≡_ {A = ℕ} 0 1 = cc in omega arith);
+      refused-unchanged = λ d e. ap (refused r) (let z : c ≡ d = cc in z);
+    }
+
+answers-taken : (r : HeadRecord) (x : Reading) (a : Action) → Answers r x (effect (withLast r x) a)
+answers-taken r x a =
+    record {
+      accepted-last-reading = λ e. effect-keeps-last (withLast r x) a;
+      refused-unchanged = λ c e. absurd (let v = ap (λ (t : Stepped). t .verdict) (effect-accepted (withLast r x) a) in let z : _≡_ {A = ℕ} 0 1 = cc in omega arith);
+    }
+
+pub action-answers : (r : HeadRecord) (x : Reading) (sent : Bool) (a : Action) → Answers r x (takeAction r x sent a)
+unfolding takeAction
+action-answers r x sent a =
+    cond-elim (Answers r x) (ltb (x .0) (r .last .0)) (λ _. answers-refused r x _)
+    (λ _. cond-elim (Answers r x) (not sent || isClosed r a) (λ _. answers-refused r x _) (λ _. answers-taken r x a))
+
+pub step-answers : (r : HeadRecord) (i : Input) → Answers r (reading (i .reading)) (step r i)
+unfolding step
+step-answers r i =
+    cond-elim (Answers r (reading (i .reading))) (not (recordInRange r)) (λ _. answers-refused r _ _)
+    (λ _. cond-elim (Answers r (reading (i .reading))) (not (inputFits (r .n) i)) (λ _. answers-refused r _ _) (λ _. action-answers r _ true (actionOf i)))
+
+-- premise 2: "For two entries of a correct head", d the earlier, whatever stands between them
+pub any-two-entries-steady : (g : Setting) {h s past : History} {d e : Event} → premise2 g h ≡ true → Earlier (e ∷ s) h → Earlier (d ∷ past) s
+    → isCorrect g (e .entry .head) ≡ true → d .entry .head ≡ e .entry .head → isSteady (g .drift) (d .entry) (e .entry) ≡ true
+unfolding premise2
+any-two-entries-steady g {d = d} {e} kept x y correct same =
+    implied (eqb (d .entry .head) (e .entry .head)) _
+    (all-in (λ d. eqb (d .entry .head) (e .entry .head) ⇒ isSteady (g .drift) (d .entry) (e .entry)) (earlier-in y)
+    (implied (isCorrect g (e .entry .head)) _ (each-at _ kept x) correct))
+    (eq-eqb (d .entry .head) (e .entry .head) same)
+
+-- "1,000,000 × |(b − a) − (t − s)| ≤ drift × (t − s) + 1,000,000", in signed numbers as document 01 writes it
+pub steady-as-written : (drift : ℕ) (d e : Entry) → isSteady drift d e
+    ≡ leb (1000000 * natAbs (subℕ (e .reading .0) (d .reading .0) -ℤ subℕ (e .time .0) (d .time .0))) (drift * (e .time .0 - d .time .0) + 1000000)
+steady-as-written drift d e =
+    ap (λ (x : ℕ). leb (1000000 * x) (drift * (e .time .0 - d .time .0) + 1000000))
+    (sym (difference-abs (difference-sub (difference-of (e .reading .0) (d .reading .0)) (difference-of (e .time .0) (d .time .0)))))
