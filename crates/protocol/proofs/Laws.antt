@@ -11,14 +11,14 @@ use lib.Dec.{ltb, leb, eqb}
 use lib.IntN.{natAbs, subℕ, _-ℤ_}
 use lib.ListN.{length}
 use lib.Seq.{getD-set-same, getD-set-other}
-use borrow.Author.Tests.{lt-ltb, le-ltb, ltb-true, ltb-false, eq-eqb, ne-eqb}
+use borrow.Author.Tests.{lt-ltb, le-ltb, leb-true, ltb-true, ltb-false, eq-eqb, ne-eqb}
 use Rattle.protocol.specs.Base.{_⇒_}
 use Rattle.protocol.specs.Types.{Reading, OptReading, NoReading, SomeReading, OptNumber, NoNumber, SomeNumber, Sender, Phase, HeadRecord, Setting, Entry}
 use Rattle.protocol.specs.Types.{Stepped, Vote, Accepted, Refused, Cause, Input}
 use Rattle.protocol.specs.Types.{Action, StartSent, StartDelivered, StartConfirmed, VoteTurn, VoteDelivered, VoteClose, AdjustTurn, AdjustDelivered, AdjustClose}
 use Rattle.protocol.specs.Words.{isCorrect}
 use Rattle.protocol.specs.Record.{isReading, isNumber, readingOr0, numberOr0, reading, noSender, keptOf, startOf, voteOf, startOfChoice, chosenStart, outcome, recordInRange}
-use Rattle.protocol.specs.Step.{withVoteReading, withVoted, withLast, silent, refused, vote, adjust, mayLead, lead, voteReadings, mayAdjust, propose, isAbove, outranks, delivered, effect, isClosed, takeAction, actionOf, inputFits, step}
+use Rattle.protocol.specs.Step.{withVoteReading, withVoted, withLast, silent, refused, vote, adjust, startsHeld, mayLead, lead, voteReadings, mayAdjust, propose, isAbove, outranks, delivered, effect, isClosed, takeAction, actionOf, inputFits, step}
 use Rattle.protocol.specs.Run.{Event, History}
 use Rattle.protocol.specs.Results.{ifAdopted, outcomeWord, adjustmentWord, startWord, headWords}
 use Rattle.protocol.specs.Premises.{isSteady, premise2}
@@ -88,6 +88,14 @@ unfolding lead vote
 lead-keeps-starts r p =
     cond-elim (λ (t : Stepped). startOf (t .after) p ≡ startOf r p) (mayLead r)
     (λ _. set-keeps (λ k. k .start) (r .senders) (r .own) p _ refl) (λ _. refl)
+
+-- "at least f + 1 start readings held": f of them, which the faulty heads alone could have sent, do not suffice
+pub leads-with-more-than-f : (r : HeadRecord) → mayLead r ≡ true → r .f < startsHeld r
+unfolding mayLead
+leads-with-more-than-f r e =
+    let enough = and-right (not (isNumber (r .vote .choice))) _ (and-right (not (r .vote .closed)) _ (and-right (r .vote .turn) _ e)) in
+    let le = leb-true (r .f + 1) (startsHeld r) enough in
+    omega arith
 
 -- 2: "No effect after the adjust close"
 pub no-start-after-close : (r : HeadRecord) (p : ℕ) → r .adjust .closed ≡ true → effect r (StartDelivered p) ≡ silent r
