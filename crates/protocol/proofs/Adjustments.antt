@@ -2,20 +2,19 @@
 -- computed at its own turn, and sent in its adjust of serial 0.
 -- Main result: `one-adjustment`.
 use mathlib.Core.Path.{_≡_, refl, sym, _∙_, ap, subst}
-use mathlib.Core.Bool.{Bool, true, false, cond, not, _&&_, _||_}
-use mathlib.Core.List.{List, [], _∷_}
-use Prim.Native.Nat.{ℕ, zero, suc, _+_, _≤_, _<_}
+use mathlib.Core.Bool.{true, false, cond, _&&_}
+use mathlib.Core.List.{_∷_}
+use Prim.Native.Nat.{ℕ, zero, suc, _+_}
 use native.Mathlib.Omega.{arith}
 use lib.Dec.{eqb}
-use borrow.Author.Tests.{eqb-true, eqb-false, eq-eqb}
-use Rattle.protocol.specs.Types.{Reading, OptReading, NoReading, SomeReading, OptNumber, NoNumber, SomeNumber, Phase, HeadRecord, Setting, Stepped, Frame, NoFrame, Start, Vote, Adjust, Action}
+use Rattle.protocol.specs.Types.{Reading, OptReading, SomeReading, NoNumber, SomeNumber, HeadRecord, Setting, Stepped, Frame, NoFrame, Start, Vote, Adjust, Action}
 use Rattle.protocol.specs.Record.{fresh}
-use Rattle.protocol.specs.Step.{vote, adjust, accepted, isClosed}
-use Rattle.protocol.specs.Run.{Event, History, recordOf, isDeliveredBy, orElse, frameSent, frameOf, isFrame, carriedReading}
-use Rattle.protocol.proofs.Tests.{absurd-bool, cases, and-left, eqb-same}
-use Rattle.protocol.proofs.Effects.{Kind, votes, adjusts, number, deliveryIn, Delivery, named, Speech, nothing, voting, adjusting, utter, prepared, speechOf, Spoken, says-nothing, says-start, says-vote, says-adjust, spoken, Speaks, Why, itself, told, Source, computed, passed-on, closed-last, none-is-some, same-number}
+use Rattle.protocol.specs.Step.{vote, adjust, accepted}
+use Rattle.protocol.specs.Run.{Event, History, recordOf, isDeliveredBy, orElse, frameSent, isFrame, carriedReading}
+use Rattle.protocol.proofs.Tests.{absurd-bool, eqb-same}
+use Rattle.protocol.proofs.Effects.{adjusts, Delivery, named, Speech, nothing, voting, adjusting, utter, prepared, speechOf, Spoken, says-adjust, spoken, Why, itself, told, Source, computed, passed-on, closed-last, none-is-some, same-number}
 use Rattle.protocol.proofs.Valid.{baseOf, Taken, Valid, start, more, record-at, record-other, by-head, of-effect, fixed, frame-fits}
-use Rattle.protocol.proofs.Phases.{held, sent, names, names-other, sent-other, unsent, Spoke, turn, frame-new, held-sent, last-frame, LastFrame, serial-below, frame-stays}
+use Rattle.protocol.proofs.Phases.{held, sent, names, names-other, sent-other, unsent, Spoke, turn, frame-new, held-sent, last-frame, frame-stays}
 
 -- what the adjust of p under serial j carries
 abbrev pub adjustmentSent : History → ℕ → ℕ → OptReading

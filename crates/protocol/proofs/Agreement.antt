@@ -2,31 +2,31 @@
 -- adjuster; whoever has an adjuster has the adjustment that this adjuster computed.
 -- Main results: `has-candidate` (a), `start-known` and `own-reading` (d), `has-adjuster` and `one-adjustment` (e).
 use mathlib.Core.Path.{_≡_, refl, sym, _∙_, ap, subst}
-use mathlib.Core.Bool.{Bool, true, false, cond, not, _&&_, _||_}
-use mathlib.Core.List.{List, [], _∷_}
-use Prim.Native.Nat.{ℕ, zero, suc, _+_, _-_, _≤_, _<_}
+use mathlib.Core.Bool.{Bool, true, false, cond, not, _&&_}
+use mathlib.Core.List.{List, _∷_}
+use Prim.Native.Nat.{ℕ, zero, suc, _≤_, _<_}
 use native.Mathlib.Nat.{not-suc-le-zero}
 use native.Mathlib.Omega.{arith}
-use lib.Dec.{ltb, leb, eqb}
-use lib.ListN.{length, getD, set}
-use borrow.Author.Tests.{eqb-true, eqb-false, eq-eqb, ne-eqb, leb-true, le-leb}
-use Rattle.protocol.specs.Base.{_⇒_, any, all, countBelow, distance}
-use Rattle.protocol.specs.Types.{Reading, OptReading, NoReading, SomeReading, OptNumber, NoNumber, SomeNumber, Sender, Phase, HeadRecord, Setting, Stepped, Frame, NoFrame, Start, Vote, Adjust}
+use lib.Dec.{leb, eqb}
+use lib.ListN.{length}
+use borrow.Author.Tests.{eqb-true, eqb-false, leb-true, le-leb}
+use Rattle.protocol.specs.Base.{_⇒_, any, countBelow, distance}
+use Rattle.protocol.specs.Types.{Reading, OptReading, NoReading, SomeReading, OptNumber, NoNumber, SomeNumber, Phase, HeadRecord, Setting}
 use Rattle.protocol.specs.Types.{Action, Look, StartSent, StartDelivered, StartConfirmed, VoteTurn, VoteDelivered, VoteClose, AdjustTurn, AdjustDelivered, AdjustClose}
 use Rattle.protocol.specs.Words.{isCorrect}
-use Rattle.protocol.specs.Record.{isReading, isNumber, keptOf, startOf, voteOf, fresh}
+use Rattle.protocol.specs.Record.{isReading, isNumber, startOf, voteOf, fresh}
 use Rattle.protocol.specs.Step.{adjust, prepend, startsHeld, voteReadings, mayAdjust, isClosed}
-use Rattle.protocol.specs.Run.{Event, History, recordOf, frameSent}
-use Rattle.protocol.specs.Premises.{takes, receives, took, received, each, correctAll, correctTakes, startHeard, premise3, lastStart}
+use Rattle.protocol.specs.Run.{Event, History, recordOf}
+use Rattle.protocol.specs.Premises.{takes, receives, took, received, correctAll, startHeard, premise3, lastStart}
 use Rattle.protocol.specs.Claim.{CorrectHead}
-use Rattle.protocol.proofs.Tests.{absurd-bool, cases, cond-elim, and-left, and-right, and-both, or-first, or-second, or-left, or-right, or-cases, implied, not-true, not-false, eqb-same, count-mono}
-use Rattle.protocol.proofs.Moments.{Earlier, now, later, earlier-trans, earlier-past, any-grows, any-map, find, Found, each-at}
-use Rattle.protocol.proofs.Effects.{Kind, votes, adjusts, phaseOf, delivery, closing, number, prepared, Speech, nothing, voting, adjusting, utter, speechOf, said, chosenBy, chosen-closed, spoken, speaks, closed-last, prepared-same, none-is-some, same-number, own-kept, own-unspoken, own-spoken}
-use Rattle.protocol.proofs.Valid.{baseOf, Valid, start, more, valid-past, valid-taken, valid-earlier, Taken, Sheet, record-at, record-other, by-head, of-effect, fixed, closed-took, confirmed-took, turn-took}
+use Rattle.protocol.proofs.Tests.{absurd-bool, cases, and-left, and-right, and-both, or-second, or-left, or-cases, implied, not-false, count-mono}
+use Rattle.protocol.proofs.Moments.{Earlier, now, earlier-trans, earlier-past, any-grows, any-map, find, each-at}
+use Rattle.protocol.proofs.Effects.{votes, adjusts, number, prepared, Speech, nothing, adjusting, utter, speechOf, said, chosenBy, chosen-closed, spoken, speaks, closed-last, prepared-same, none-is-some, own-kept, own-unspoken, own-spoken}
+use Rattle.protocol.proofs.Valid.{baseOf, Valid, start, more, valid-past, valid-taken, valid-earlier, Taken, record-at, record-other, by-head, of-effect, fixed, closed-took, turn-took}
 use Rattle.protocol.proofs.Ranges.{run-in-range}
-use Rattle.protocol.proofs.Phases.{held, sent, isOver, names, held-other, Origin, own, heard, Turn, quiet, spoke, Spoke, turn, phase-at, delivered-choice, held-sent, AtMost, falls-later}
+use Rattle.protocol.proofs.Phases.{held, held-other, own, turn, phase-at, delivered-choice, held-sent, falls-later}
 use Rattle.protocol.proofs.Starts.{StartAt, start-found, waits, candidate-confirmed}
-use Rattle.protocol.proofs.Rounds.{Round, correct-at, took-correct, correct-heads, some-correct, moment, moment-earlier, valid-moment, still-open, isClose, votes-heard, adjusts-heard, reaches, chosen, choice-stays}
+use Rattle.protocol.proofs.Rounds.{Round, correct-at, took-correct, correct-heads, moment, moment-earlier, valid-moment, still-open, isClose, votes-heard, adjusts-heard, reaches, chosen, choice-stays}
 
 -- AN ADJUST TURN GIVES AN ADJUSTER
 

@@ -11,7 +11,7 @@ use lib.ListN.{length, getD}
 use borrow.Author.Tests.{lt-ltb, le-ltb, eqb-true, eq-eqb}
 use Rattle.protocol.specs.Types.{Reading, HeadRecord, Setting, Entry, Input, Action, Stepped, Verdict, Accepted, Refused, TurnedBack}
 use Rattle.protocol.specs.Types.{Cause, TooManyWords, BadLength, BadFirstWord, ShortBuffer, BadEntry, TimeFell, ReadingFell, BadRecord}
-use Rattle.protocol.specs.Words.{firstWordFits, secondWordFits, settingAt, entryCount, placeOf, entryAt, entryFitsAt}
+use Rattle.protocol.specs.Words.{mostWords, firstWordFits, secondWordFits, settingAt, entryCount, placeOf, entryAt, entryFitsAt}
 use Rattle.protocol.specs.Record.{recordInRange}
 use Rattle.protocol.specs.Step.{refused, takeAction, inputFits, step}
 use Rattle.protocol.specs.Causes.{sheetVerdict}
@@ -28,22 +28,22 @@ pub whole-entries-pass : (ws : List ℕ) (k : ℕ) → length ws ≡ 2 + 3 * k �
     → firstWordFits (getD ws 0 0) ≡ true → secondWordFits (getD ws 1 0) ≡ true → sheetVerdict ws ≡ Accepted
 unfolding sheetVerdict
 whole-entries-pass ws k e h a b =
-    cond-elim (λ v. v ≡ Accepted) (ltb 12290 (length ws)) (λ t. absurd-bool t (le-ltb 12290 (length ws) (omega arith)))
+    cond-elim (λ v. v ≡ Accepted) (ltb mostWords (length ws)) (λ t. absurd-bool t (le-ltb mostWords (length ws) (omega arith)))
     (λ _. rw (whole-length ws k e, a, b) refl)
 
 -- "more than 12,290 words" are cause 1, whatever else holds of them
 pub too-many-words : (ws : List ℕ) → 12290 < length ws → sheetVerdict ws ≡ Refused TooManyWords
 unfolding sheetVerdict
 too-many-words ws h =
-    cond-elim (λ v. v ≡ Refused TooManyWords) (ltb 12290 (length ws)) (λ _. refl)
-    (λ t. absurd-bool (lt-ltb 12290 (length ws) h) t)
+    cond-elim (λ v. v ≡ Refused TooManyWords) (ltb mostWords (length ws)) (λ _. refl)
+    (λ t. absurd-bool (lt-ltb mostWords (length ws) h) t)
 
 -- "Sheet order: 1 to 5": cause 3 whatever the second word, cause 5 whatever the entries
 pub first-word-first : (ws : List ℕ) (k : ℕ) → length ws ≡ 2 + 3 * k → k ≤ 4096
     → firstWordFits (getD ws 0 0) ≡ false → sheetVerdict ws ≡ Refused BadFirstWord
 unfolding sheetVerdict
 first-word-first ws k e h a =
-    cond-elim (λ v. v ≡ Refused BadFirstWord) (ltb 12290 (length ws)) (λ t. absurd-bool t (le-ltb 12290 (length ws) (omega arith)))
+    cond-elim (λ v. v ≡ Refused BadFirstWord) (ltb mostWords (length ws)) (λ t. absurd-bool t (le-ltb mostWords (length ws) (omega arith)))
     (λ _. rw (whole-length ws k e, a) refl)
 
 pub buffer-before-entries : (ws out : List ℕ) → sheetVerdict ws ≡ Accepted → length out < 3 * settingAt ws .n

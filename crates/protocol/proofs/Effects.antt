@@ -4,19 +4,19 @@
 use mathlib.Core.Path.{_≡_, refl, sym, _∙_, ap, subst}
 use mathlib.Core.Bool.{Bool, true, false, cond, not, _&&_, _||_}
 use mathlib.Core.List.{List, [], _∷_}
-use Prim.Native.Nat.{ℕ, zero, suc, _+_, _≤_, _<_}
+use Prim.Native.Nat.{ℕ, zero, suc, _<_}
 use native.Mathlib.Omega.{arith}
-use lib.Dec.{ltb, leb, eqb}
+use lib.Dec.{eqb}
 use lib.ListN.{length, getD, set, length-set}
 use lib.Seq.{getD-set-same, getD-set-other}
 use borrow.Author.Tests.{eqb-true, eqb-false}
-use Rattle.protocol.specs.Types.{Reading, OptReading, NoReading, SomeReading, OptNumber, NoNumber, SomeNumber, Sender, Phase, HeadRecord, Stepped, Verdict, Accepted, Frame, NoFrame, Start, Vote, Adjust}
+use Rattle.protocol.specs.Types.{Reading, OptReading, SomeReading, OptNumber, NoNumber, SomeNumber, Sender, Phase, HeadRecord, Stepped, Frame, NoFrame, Start, Vote, Adjust}
 use Rattle.protocol.specs.Types.{Action, Look, StartSent, StartDelivered, StartConfirmed, VoteTurn, VoteDelivered, VoteClose, AdjustTurn, AdjustDelivered, AdjustClose}
 use Rattle.protocol.specs.Record.{isNumber, reading, noSender, keptOf, startOf, voteOf}
 use Rattle.protocol.specs.Median.{median}
 use Rattle.protocol.specs.Step.{choose, withStart, withVoteReading, withVoted, withAdjusted, withLast, accepted, silent, vote, adjust, mayLead, lead, voteReadings, mayAdjust, propose, isAbove, outranks, delivered, effect, isClosed}
 use Rattle.protocol.specs.Run.{isDeliveredBy, carriedReading}
-use Rattle.protocol.proofs.Tests.{absurd-bool, cases, cond-elim, not-true, not-false, and-left, and-right, or-left, or-right}
+use Rattle.protocol.proofs.Tests.{absurd-bool, cond-elim, not-true, and-left, and-right, or-left, or-right}
 
 -- the two phases, and what each has of a record, a sender and the actions
 pub data Kind : Type 0 where

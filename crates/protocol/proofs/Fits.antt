@@ -12,7 +12,7 @@ use lib.ListN.{length, getD}
 use lib.Pow.{pow-mono}
 use borrow.Author.Tests.{ltb-true, ltb-false, leb-true, eqb-true, ne-eqb}
 use Rattle.protocol.specs.Types.{Setting, Input, Cause, Verdict, Accepted, Refused}
-use Rattle.protocol.specs.Words.{bits, kindOf, timeOf, settingOf, isCorrect, firstWordFits, secondWordFits, hasSerial, hasSender, zeroWhereUnused, entryOf, entryFits, entryCount}
+use Rattle.protocol.specs.Words.{mostWords, bits, kindOf, timeOf, settingOf, isCorrect, firstWordFits, secondWordFits, hasSerial, hasSender, zeroWhereUnused, entryOf, entryFits, entryCount}
 use Rattle.protocol.specs.Step.{inputFits}
 use Rattle.protocol.specs.Causes.{sheetVerdict}
 use Rattle.protocol.specs.Program.{bigEndian}
@@ -71,12 +71,12 @@ refused-not-accepted c e = absurd (let z : _≡_ {A = ℕ} 0 1 = cc in omega ari
 pub sheet-fits : (ws : List ℕ) → sheetVerdict ws ≡ Accepted → FittingSheet ws
 unfolding sheetVerdict
 sheet-fits ws =
-    cond-elim Fits (ltb 12290 (length ws)) (λ _. refused-not-accepted _)
+    cond-elim Fits (ltb mostWords (length ws)) (λ _. refused-not-accepted _)
     (λ few. cond-elim Fits (ltb (length ws) 2 || not (eqb ((length ws - 2) % 3) 0)) (λ _. refused-not-accepted _)
     (λ whole. cond-elim Fits (not (firstWordFits (getD ws 0 0))) (λ _. refused-not-accepted _)
     (λ first. cond-elim Fits (not (secondWordFits (getD ws 1 0))) (λ _. refused-not-accepted _)
     (λ second _.
-    let most = ltb-false 12290 (length ws) few in
+    let most = ltb-false mostWords (length ws) few in
     let two = ltb-false (length ws) 2 (or-left (ltb (length ws) 2) _ whole) in
     let threes = eqb-true ((length ws - 2) % 3) 0 (not-false (or-right (ltb (length ws) 2) _ whole)) in
     record { whole-entries = omega arith; most-entries = omega arith; first-word = not-false first; second-word = not-false second }))))

@@ -1,9 +1,9 @@
 -- M1 to M12: one computed test over the table, and one lemma.
 use mathlib.Core.Path.{_≡_, refl}
-use mathlib.Core.Bool.{Bool, true, false, cond}
-use mathlib.Core.List.{List, [], _∷_}
+use mathlib.Core.Bool.{Bool, true}
+use mathlib.Core.List.{[]}
 use Prim.Native.Nat.{ℕ, _<_}
-use lib.ListN.{length, getD}
+use lib.ListN.{getD}
 use Rattle.protocol.specs.Base.{all}
 use Rattle.protocol.specs.Words.{settingOf, firstWordFits, entryOf, entryFits}
 use Rattle.protocol.specs.Record.{fresh, chosenStart, outcome, correction, correctedClock}

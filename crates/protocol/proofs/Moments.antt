@@ -1,12 +1,11 @@
 -- Moments of a history: what came before an event, the first event that passes a test, and tests at every event.
-use mathlib.Core.Path.{_≡_, refl, sym, _∙_, ap, subst}
-use mathlib.Core.Bool.{Bool, true, false, cond, not, _&&_, _||_}
-use mathlib.Core.List.{List, [], _∷_, _++_}
-use Prim.Native.Nat.{ℕ}
+use mathlib.Core.Path.{_≡_, refl, sym, subst}
+use mathlib.Core.Bool.{Bool, true, false}
+use mathlib.Core.List.{[], _∷_, _++_}
 use Rattle.protocol.specs.Base.{any}
 use Rattle.protocol.specs.Run.{Event, History}
 use Rattle.protocol.specs.Premises.{before, each}
-use Rattle.protocol.proofs.Tests.{absurd-bool, cond-elim, and-left, and-right, or-cases, or-first, or-second, In, first, next}
+use Rattle.protocol.proofs.Tests.{absurd-bool, and-left, and-right, or-cases, or-first, or-second, In, first, next}
 
 -- s is the history at some moment of h; Earlier (e ∷ s) h: e is an event of h, and s came before it
 pub data Earlier (s : History) : History → Type 0 where

@@ -3,25 +3,24 @@
 -- the receiver: its choice is at most what that frame named. Two heads that took each other's last frame therefore agree.
 -- Main results, over the phase: `frame-stays`, `last-frame`, `delivered-choice`, `agree`.
 use mathlib.Core.Path.{_≡_, refl, sym, _∙_, ap, subst}
-use mathlib.Core.Bool.{Bool, true, false, cond, not, _&&_, _||_}
-use mathlib.Core.List.{List, [], _∷_}
-use Prim.Native.Nat.{ℕ, zero, suc, _+_, _≤_, _<_}
+use mathlib.Core.Bool.{Bool, true, false, cond, not, _&&_}
+use mathlib.Core.List.{_∷_}
+use Prim.Native.Nat.{ℕ, zero, suc, _≤_, _<_}
 use native.Mathlib.Numerals.{add-one}
 use native.Mathlib.Omega.{arith}
-use lib.Dec.{ltb, leb, eqb}
-use lib.ListN.{length, getD, replicate}
-use borrow.Author.Tests.{eqb-true, eqb-false, eq-eqb, ltb-true, ltb-false}
-use Rattle.protocol.specs.Base.{any}
-use Rattle.protocol.specs.Types.{OptReading, OptNumber, NoNumber, SomeNumber, Sender, Phase, HeadRecord, Setting, Entry, Stepped, Frame, NoFrame, Start, Vote, Adjust, Action}
+use lib.Dec.{eqb}
+use lib.ListN.{getD, replicate}
+use borrow.Author.Tests.{eqb-true, eq-eqb, ltb-true, ltb-false}
+use Rattle.protocol.specs.Types.{OptReading, OptNumber, NoNumber, SomeNumber, Sender, Phase, HeadRecord, Setting, Frame, NoFrame, Start, Vote, Adjust}
 use Rattle.protocol.specs.Words.{hasSender}
 use Rattle.protocol.specs.Record.{noSender, keptOf, fresh}
-use Rattle.protocol.specs.Step.{withVoteReading, accepted, isAbove, outranks}
+use Rattle.protocol.specs.Step.{withVoteReading, isAbove, outranks}
 use Rattle.protocol.specs.Run.{Event, History, recordOf, isDeliveredBy, orElse, frameSent, frameOf, isFrame}
 use Rattle.protocol.specs.Premises.{takes, receives, received}
 use Rattle.protocol.specs.Premises as Premises
-use Rattle.protocol.proofs.Tests.{absurd-bool, cases, cond-elim, and-left, and-right, and-both, or-first, or-left, or-right, or-cases, not-true, not-false, eqb-same}
+use Rattle.protocol.proofs.Tests.{absurd-bool, and-left, and-right, and-both, or-first, or-right, or-cases, not-true, not-false, eqb-same}
 use Rattle.protocol.proofs.Moments.{Earlier, now, later, any-grows, find}
-use Rattle.protocol.proofs.Effects.{Kind, votes, adjusts, phaseOf, takenOf, delivery, closing, number, deliveryIn, deliveredBy, serialOf, named, namedBy, taken, passedOver, ignored, keptAfter, Delivery, prepared, Speech, utter, speechOf, said, chosenBy, saidUnder, prepared-choice, prepared-sent, phase-last, chosen-turn, chosen-closed, phase-after, named-after, Spoken, spoken, Speaks, speaks, Why, itself, told, utter-keeps, kept-after, none-is-some, same-number, closed-last, taken-after, ignored-frame, heard-speech}
+use Rattle.protocol.proofs.Effects.{Kind, votes, adjusts, phaseOf, takenOf, delivery, closing, deliveryIn, deliveredBy, serialOf, named, namedBy, taken, passedOver, ignored, Delivery, prepared, Speech, speechOf, said, chosenBy, saidUnder, prepared-choice, prepared-sent, phase-last, chosen-turn, chosen-closed, phase-after, named-after, spoken, speaks, Why, itself, told, none-is-some, same-number, closed-last, taken-after, ignored-frame, heard-speech}
 use Rattle.protocol.proofs.Valid.{baseOf, Taken, Valid, start, more, frame-fits, record-at, record-other, by-head, of-effect, fixed, keptNext, kept-at, closed-took}
 
 -- the first of two that is there

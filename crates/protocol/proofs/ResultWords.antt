@@ -1,25 +1,22 @@
 -- What a replay's result words say of a head that has a clock is what its record says, so the third point holds of the words.
 -- Main results: `words-say` (a head's words read back), `filled` (what a replay leaves), `third-point-in-words`.
 use mathlib.Core.Path.{_≡_, refl, sym, _∙_, ap, subst}
-use mathlib.Core.Bool.{Bool, true, false, cond}
 use mathlib.Core.List.{List, [], _∷_, _++_}
-use Prim.Native.Nat.{ℕ, zero, suc, _+_, _-_, _*_, _/_, _%_, _^_, _≤_, _<_}
+use Prim.Native.Nat.{ℕ, zero, suc, _+_, _*_, _^_, _≤_, _<_}
 use native.Mathlib.Nat.{not-suc-le-zero}
 use native.Mathlib.Omega.{arith}
-use lib.Dec.{ltb, eqb}
 use lib.ListN.{length, getD, drop}
-use lib.IntN.{ℤ, subℕ}
-use Rattle.protocol.specs.Types.{Reading, OptReading, NoReading, SomeReading, OptNumber, NoNumber, SomeNumber, HeadRecord, Setting, ShortBuffer, Verdict, Accepted, Refused, Judged, Kept, Replayed, Filled, TurnedBack}
+use borrow.Author.Tests.{le-ltb}
+use lib.IntN.{subℕ}
+use Rattle.protocol.specs.Types.{OptNumber, NoNumber, SomeNumber, HeadRecord, Setting, Verdict, Accepted, Refused, Filled}
 use Rattle.protocol.specs.Words.{bits, timeOf, settingAt, entryCount}
-use Rattle.protocol.specs.Record.{readingOr0, numberOr0, startOf, startOfChoice, chosenStart, outcome, correction}
+use Rattle.protocol.specs.Record.{readingOr0, numberOr0, startOfChoice, chosenStart, outcome, correction}
 use Rattle.protocol.specs.Causes.{sheetVerdict}
-use Rattle.protocol.specs.Run.{Event, History, recordOf, Run, stopped, ran, runOf, afterVerdict, runSheet}
-use Rattle.protocol.specs.Results.{ifAdopted, outcomeWord, adjustmentWord, startWord, wordsPerHead, headWords, wordsFrom, resultWords, Replay, fill, fillAfter, replay}
-use Rattle.protocol.specs.Premises.{judge}
-use Rattle.protocol.specs.Claim.{CorrectHead, Ending, endingOf, resultOf, endingInWords, LookedAt, shown, apart, sinceStart, Agreement, ThirdPoint, ThirdPointInWords}
-use Rattle.protocol.proofs.Tests.{absurd-bool, cases}
-use Rattle.protocol.proofs.Effects.{Kind, votes, adjusts, phaseOf}
-use Rattle.protocol.proofs.Valid.{Valid, Sheet, accepted-sheet, fixed}
+use Rattle.protocol.specs.Run.{History, recordOf, ran, runOf, afterVerdict, runSheet}
+use Rattle.protocol.specs.Results.{outcomeWord, adjustmentWord, startWord, wordsPerHead, headWords, wordsFrom, resultWords, Replay, fillAfter, replay}
+use Rattle.protocol.specs.Claim.{CorrectHead, Ending, endingOf, resultOf, endingInWords, shown, apart, sinceStart, Agreement, ThirdPointInWords}
+use Rattle.protocol.proofs.Effects.{votes, adjusts}
+use Rattle.protocol.proofs.Valid.{Sheet, accepted-sheet}
 use Rattle.protocol.proofs.Ranges.{InRange, SentInRange, run-in-range}
 use Rattle.protocol.proofs.ThirdPoint.{third-point}
 
@@ -112,19 +109,15 @@ words-say g h rest a q l two =
 
 -- WHAT A REPLAY LEAVES
 
-pub filled : (ws out : List ℕ) (h : History) → runSheet ws ≡ ran h → replay ws out .answer ≡ Filled
-    → replay ws out .buffer ≡ resultWords (settingAt ws) h ++ drop (wordsPerHead * settingAt ws .n) out
+pub filled : (ws out : List ℕ) (h : History) → runSheet ws ≡ ran h → wordsPerHead * settingAt ws .n ≤ length out
+    → replay ws out ≡ record { answer = Filled; buffer = resultWords (settingAt ws) h ++ drop (wordsPerHead * settingAt ws .n) out }
 unfolding replay runSheet
-filled ws out h e f = go (sheetVerdict ws) e f
+filled ws out h e f = go (sheetVerdict ws) e
   where
-    go : (x : Verdict) → afterVerdict x (runOf ws (entryCount ws)) ≡ ran h → fillAfter x ws out .answer ≡ Filled → fillAfter x ws out .buffer ≡ resultWords (settingAt ws) h ++ drop (wordsPerHead * settingAt ws .n) out
-    go (Refused c) e f = absurd (let z : _≡_ {A = ℕ} 0 1 = cc in omega arith)
-    go Accepted e f = enough (ltb (length out) (wordsPerHead * settingAt ws .n)) f
-      where
-        enough : (b : Bool) → cond b (fill (settingAt ws) out (stopped ShortBuffer 0)) (fill (settingAt ws) out (runOf ws (entryCount ws))) .answer ≡ Filled
-            → cond b (fill (settingAt ws) out (stopped ShortBuffer 0)) (fill (settingAt ws) out (runOf ws (entryCount ws))) .buffer ≡ resultWords (settingAt ws) h ++ drop (wordsPerHead * settingAt ws .n) out
-        enough true f = absurd (let z : _≡_ {A = ℕ} 0 1 = cc in omega arith)
-        enough false f = ap (λ (x : Run). fill (settingAt ws) out x .buffer) e
+    go : (x : Verdict) → afterVerdict x (runOf ws (entryCount ws)) ≡ ran h
+        → fillAfter x ws out ≡ record { answer = Filled; buffer = resultWords (settingAt ws) h ++ drop (wordsPerHead * settingAt ws .n) out }
+    go (Refused c) e = absurd (let z : _≡_ {A = ℕ} 0 1 = cc in omega arith)
+    go Accepted e = rw (le-ltb (length out) (wordsPerHead * settingAt ws .n) f, e) refl
 
 pub third-point-in-words : (ws out : List ℕ) → ThirdPointInWords ws out
 unfolding endingOf
@@ -149,5 +142,5 @@ third-point-in-words ws out h e k f = record {
 
     says-so : {q : ℕ} → CorrectHead (settingAt ws) q → endingInWords (replay ws out .buffer) q ≡ endingOf (recordOf (settingAt ws) h q)
     says-so {q} c =
-        subst (λ (b : List ℕ). endingInWords b q ≡ endingOf (recordOf (settingAt ws) h q)) (sym (filled ws out h e f))
+        subst (λ (b : List ℕ). endingInWords b q ≡ endingOf (recordOf (settingAt ws) h q)) (sym (ap (λ (x : Replay). x .buffer) (filled ws out h e f)))
         (words-say (settingAt ws) h (drop (wordsPerHead * settingAt ws .n) out) (accepted-sheet ws h e) q (c .is-head) (a .has-clock c))

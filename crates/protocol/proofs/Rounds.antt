@@ -2,21 +2,21 @@
 -- and that nothing changes a correct head's choice from then on. All of it is said once, over the phase.
 -- Main results: `first-close`, `reaches`, `same-choice`, `choice-stays`.
 use mathlib.Core.Path.{_≡_, refl, sym, _∙_, ap, subst}
-use mathlib.Core.Bool.{Bool, true, false, cond, not, _&&_, _||_}
+use mathlib.Core.Bool.{Bool, true, false, not, _&&_, _||_}
 use mathlib.Core.List.{List, [], _∷_}
-use Prim.Native.Nat.{ℕ, zero, suc, _+_, _-_, _≤_, _<_}
+use Prim.Native.Nat.{ℕ, suc, _-_, _<_}
 use native.Mathlib.Omega.{arith}
-use lib.Dec.{ltb, leb, eqb}
+use lib.Dec.{eqb}
 use borrow.Author.Tests.{eqb-true, eqb-false, eq-eqb, ne-eqb, leb-true}
-use Rattle.protocol.specs.Base.{_⇒_, any, all, allBelow, countBelow}
-use Rattle.protocol.specs.Types.{OptNumber, NoNumber, SomeNumber, HeadRecord, Setting, Judged, Kept, Broken}
+use Rattle.protocol.specs.Base.{_⇒_, any, all, countBelow}
+use Rattle.protocol.specs.Types.{SomeNumber, Setting, Kept}
 use Rattle.protocol.specs.Words.{isCorrect}
 use Rattle.protocol.specs.Run.{Event, History, recordOf}
-use Rattle.protocol.specs.Premises.{takes, receives, took, received, before, each, correctAll, correctTakes, premise1, premise2, premise3, premise4, premise5, premise6, premise7, premise8, premises, reached, votesHeard, adjustsHeard, quietBetween, firstBroken}
+use Rattle.protocol.specs.Premises.{takes, took, received, before, correctAll, correctTakes, premise1, premise2, premise3, premise4, premise5, premise6, premise7, premise8, premises, reached, votesHeard, adjustsHeard, quietBetween, firstBroken}
 use Rattle.protocol.specs.Claim.{CorrectHead}
-use Rattle.protocol.proofs.Tests.{absurd-bool, cases, and-left, and-right, and-both, or-first, or-second, or-cases, implied, not-true, eqb-same, all-below, count-some}
-use Rattle.protocol.proofs.Moments.{Earlier, now, later, earlier-trans, earlier-past, any-grows, any-map, First, first-of, before-stays, find-after, each-at}
-use Rattle.protocol.proofs.Effects.{Kind, votes, adjusts, phaseOf, delivery, closing, none-is-some, same-number}
+use Rattle.protocol.proofs.Tests.{absurd-bool, cases, and-left, and-right, and-both, or-first, implied, not-true, eqb-same, all-below, count-some}
+use Rattle.protocol.proofs.Moments.{Earlier, now, later, earlier-past, any-grows, any-map, First, first-of, before-stays, find-after, each-at}
+use Rattle.protocol.proofs.Effects.{Kind, votes, adjusts, delivery, closing, none-is-some, same-number}
 use Rattle.protocol.proofs.Valid.{Valid, valid-past, valid-taken, valid-earlier, Taken, Sheet, by-head, closed-took}
 use Rattle.protocol.proofs.Phases.{held, sent, isOver, held-other, Origin, own, heard, Turn, quiet, spoke, Spoke, turn, agree}
 

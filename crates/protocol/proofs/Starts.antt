@@ -2,28 +2,27 @@
 -- waits for start readings holds at most f; whoever is voted for has confirmed its start.
 -- Main results: `start-found`, `waits`, `frame-confirmed`, `candidate-confirmed`.
 use mathlib.Core.Path.{_≡_, refl, sym, _∙_, ap, subst}
-use mathlib.Core.Bool.{Bool, true, false, cond, not, _&&_, _||_}
-use mathlib.Core.List.{List, [], _∷_}
-use Prim.Native.Nat.{ℕ, zero, suc, _+_, _≤_, _<_}
+use mathlib.Core.Bool.{Bool, true, false, cond, not, _&&_}
+use mathlib.Core.List.{List, _∷_}
+use Prim.Native.Nat.{ℕ, _+_, _≤_}
 use native.Mathlib.Omega.{arith}
-use lib.Dec.{ltb, leb, eqb}
-use lib.ListN.{length, getD, set}
-use borrow.Author.Tests.{eqb-true, eqb-false, eq-eqb, leb-true, leb-false}
-use Rattle.protocol.specs.Base.{any, countBelow}
-use Rattle.protocol.specs.Types.{Reading, OptReading, NoReading, SomeReading, OptNumber, NoNumber, SomeNumber, Sender, Phase, HeadRecord, Setting, Entry, Stepped, Frame, NoFrame, Start, Vote, Adjust}
+use lib.Dec.{leb, eqb}
+use lib.ListN.{set}
+use borrow.Author.Tests.{eqb-true, eq-eqb, leb-false}
+use Rattle.protocol.specs.Types.{SomeReading, NoNumber, SomeNumber, Sender, HeadRecord, Setting, Frame, NoFrame, Start, Vote, Adjust}
 use Rattle.protocol.specs.Types.{Action, Look, StartSent, StartDelivered, StartConfirmed, VoteTurn, VoteDelivered, VoteClose, AdjustTurn, AdjustDelivered, AdjustClose}
 use Rattle.protocol.specs.Words.{hasSender, headsFit}
-use Rattle.protocol.specs.Record.{isReading, isNumber, keptOf, startOf, fresh}
+use Rattle.protocol.specs.Record.{isReading, keptOf, startOf, fresh}
 use Rattle.protocol.specs.Step.{vote, adjust, startsHeld, mayLead}
 use Rattle.protocol.specs.Run.{Event, History, recordOf, frameSent, frameOf}
 use Rattle.protocol.specs.Premises.{takes, receives, took, received, lastStart}
-use Rattle.protocol.proofs.Tests.{absurd-bool, cases, cond-elim, and-left, and-right, and-both, or-first, or-second, or-left, or-right, or-cases, not-true, not-false, eqb-same, count-mono}
-use Rattle.protocol.proofs.Moments.{Earlier, now, later, any-grows, find}
-use Rattle.protocol.proofs.Effects.{Kind, votes, adjusts, phaseOf, deliveredBy, withSenders, ignored, keptAfter, column-kept, prepared, Speech, nothing, voting, adjusting, utter, speechOf, none-is-some}
+use Rattle.protocol.proofs.Tests.{absurd-bool, cases, and-left, and-right, and-both, or-second, or-right, eqb-same, count-mono}
+use Rattle.protocol.proofs.Moments.{Earlier, now, later}
+use Rattle.protocol.proofs.Effects.{votes, adjusts, deliveredBy, withSenders, ignored, keptAfter, column-kept, prepared, Speech, nothing, voting, adjusting, utter, speechOf, none-is-some}
 use Rattle.protocol.proofs.Effects as Effects
-use Rattle.protocol.proofs.Valid.{baseOf, Taken, Valid, start, more, record-at, record-other, by-head, invariant, keptNext, kept-at, closed-took, confirmed-took}
+use Rattle.protocol.proofs.Valid.{baseOf, Taken, Valid, start, more, record-other, by-head, invariant, keptNext, kept-at, closed-took, confirmed-took}
 use Rattle.protocol.proofs.Ranges.{run-in-range}
-use Rattle.protocol.proofs.Phases.{held, sent, names, names-other, Origin, own, heard, Turn, quiet, spoke, turn, frame-new, LastFrame, last-frame, held-sent}
+use Rattle.protocol.proofs.Phases.{held, names, names-other, Origin, own, heard, turn, frame-new, last-frame, held-sent}
 
 -- a frame that action 2 delivers is a start
 is-start : (x : Frame) → deliveredBy x ≡ 2 → x ≡ Start

@@ -2,28 +2,26 @@
 -- clock, all with the same candidate, adjuster and adjustment, and the bound on the distance of corrected clocks.
 -- Main results: `third-point` (of the records), `third-point-in-words` (of the replay's result words).
 use mathlib.Core.Path.{_≡_, refl, sym, _∙_, ap, subst}
-use mathlib.Core.Bool.{Bool, true, false, cond, not, _&&_, _||_}
-use mathlib.Core.List.{List, [], _∷_, _++_}
-use Prim.Native.Nat.{ℕ, zero, suc, _+_, _-_, _*_, _≤_, _<_}
+use mathlib.Core.Bool.{true, false}
+use mathlib.Core.List.{List, _∷_}
+use Prim.Native.Nat.{ℕ, _+_, _-_, _*_, _≤_}
 use native.Mathlib.Omega.{arith}
-use lib.Dec.{ltb, leb, eqb}
-use lib.ListN.{length, getD, drop}
-use lib.IntN.{ℤ, pos, subℕ, _+ℤ_}
-use borrow.Author.Tests.{eqb-true, eq-eqb, leb-true}
-use Rattle.protocol.specs.Base.{any, distance}
-use Rattle.protocol.specs.Types.{Reading, OptReading, NoReading, SomeReading, OptNumber, NoNumber, SomeNumber, HeadRecord, Setting, Entry, Judged, Kept, Broken, Unjudged}
-use Rattle.protocol.specs.Words.{isCorrect, settingAt}
-use Rattle.protocol.specs.Record.{isReading, isNumber, readingOr0, numberOr0, startOf, startOfChoice, chosenStart, outcome, correction}
-use Rattle.protocol.specs.Run.{Event, History, recordOf, Run, stopped, ran, runSheet}
-use Rattle.protocol.specs.Premises.{takes, receives, took, isSteady, lastStart, premises, firstBroken, judgeRun, judge}
-use Rattle.protocol.specs.Claim.{CorrectHead, Ending, endingOf, LookedAt, shown, apart, sinceStart, Agreement, ThirdPoint, ThirdPointInWords}
-use Rattle.protocol.proofs.Tests.{absurd-bool, cases, and-left, and-right, or-first}
-use Rattle.protocol.proofs.Moments.{Earlier, now, later, earlier-trans, earlier-past, earlier-append, any-grows, later-moment}
-use Rattle.protocol.proofs.Effects.{Kind, votes, adjusts, same-number}
-use Rattle.protocol.proofs.Valid.{Valid, Sheet, valid-earlier, accepted-sheet, closed-took}
-use Rattle.protocol.proofs.Phases.{held}
+use lib.Dec.{eqb}
+use lib.IntN.{pos, subℕ, _+ℤ_}
+use borrow.Author.Tests.{eqb-true, leb-true}
+use Rattle.protocol.specs.Base.{distance}
+use Rattle.protocol.specs.Types.{Reading, OptReading, SomeReading, SomeNumber, Setting, Kept}
+use Rattle.protocol.specs.Words.{settingAt}
+use Rattle.protocol.specs.Record.{readingOr0, numberOr0, chosenStart, outcome, correction}
+use Rattle.protocol.specs.Run.{Event, History, recordOf, ran, runSheet}
+use Rattle.protocol.specs.Premises.{takes, receives, took, isSteady, lastStart, premises, firstBroken, judge}
+use Rattle.protocol.specs.Claim.{CorrectHead, endingOf, LookedAt, shown, apart, sinceStart, Agreement, ThirdPoint}
+use Rattle.protocol.proofs.Tests.{cases, and-left, and-right, or-first}
+use Rattle.protocol.proofs.Moments.{Earlier, now, later, earlier-trans, earlier-past, earlier-append, later-moment}
+use Rattle.protocol.proofs.Effects.{votes, adjusts}
+use Rattle.protocol.proofs.Valid.{valid-earlier, accepted-sheet, closed-took}
 use Rattle.protocol.proofs.Starts.{StartAt, candidate-confirmed}
-use Rattle.protocol.proofs.Rounds.{Round, kept-round, some-correct, closes, moment, moment-earlier, valid-moment, still-open, none-closed, has-close, chosen, choice-at-moment}
+use Rattle.protocol.proofs.Rounds.{Round, kept-round, some-correct, closes, moment, moment-earlier, valid-moment, still-open, has-close, chosen, choice-at-moment}
 use Rattle.protocol.proofs.Adjustments.{one-adjustment}
 use Rattle.protocol.proofs.Agreement.{adjust-later, has-candidate, Confirmation, confirmation, start-known, candidate-stays, has-adjuster, adjuster-stays}
 use Rattle.protocol.proofs.Precision.{apart-distance, triangle, steady, start-stays}

@@ -1,12 +1,12 @@
 -- Document 01, "Causes to turn a sheet back": the numbers of the table, and causes 1 to 4, which concern a sheet as a whole.
 use mathlib.Core.Bool.{cond, not, _||_}
-use mathlib.Core.List.{List}
+use mathlib.Core.List.{List, [], _∷_}
 use Prim.Native.Nat.{ℕ, _-_, _%_}
 use lib.Dec.{ltb, eqb}
 use lib.ListN.{length, getD}
 use Rattle.protocol.specs.Types.{Cause, TooManyWords, BadLength, BadFirstWord, BadSecondWord, ShortBuffer, BadEntry, TimeFell, ReadingFell, ActionClosed, BadRecord, CounterTooFar}
 use Rattle.protocol.specs.Types.{Verdict, Accepted, Refused}
-use Rattle.protocol.specs.Words.{firstWordFits, secondWordFits}
+use Rattle.protocol.specs.Words.{mostWords, firstWordFits, secondWordFits}
 
 abbrev pub causeNumber : Cause → ℕ
 causeNumber TooManyWords = 1
@@ -21,15 +21,15 @@ causeNumber ActionClosed = 9
 causeNumber BadRecord = 10
 causeNumber CounterTooFar = 11
 
--- 0 for an accepted action
-abbrev pub verdictNumber : Verdict → ℕ
-verdictNumber Accepted = 0
-verdictNumber (Refused c) = causeNumber c
+-- "back come 0", or the cause's number; the place is "0 for one head"
+abbrev pub verdictNumbers : Verdict → List ℕ
+verdictNumbers Accepted = 0 ∷ 0 ∷ []
+verdictNumbers (Refused c) = causeNumber c ∷ 0 ∷ []
 
--- "At most 4,096 entries: 12,290 words"; "fewer than 2 words, or not 2 + 3 × a whole number"
+-- "more than 12,290 words"; "fewer than 2 words, or not 2 + 3 × a whole number"
 unfoldable pub sheetVerdict : List ℕ → Verdict
 sheetVerdict ws =
-    cond (ltb 12290 (length ws)) (Refused TooManyWords)
+    cond (ltb mostWords (length ws)) (Refused TooManyWords)
     (cond (ltb (length ws) 2 || not (eqb ((length ws - 2) % 3) 0)) (Refused BadLength)
     (cond (not (firstWordFits (getD ws 0 0))) (Refused BadFirstWord)
     (cond (not (secondWordFits (getD ws 1 0))) (Refused BadSecondWord) Accepted)))

@@ -1,15 +1,15 @@
 -- Document 01, "The third point's words": the claim, as a type. Its proof is in proofs/.
 use mathlib.Core.Path.{_≡_}
-use mathlib.Core.Bool.{Bool, true}
+use mathlib.Core.Bool.{true}
 use mathlib.Core.List.{List, _∷_, _++_}
 use Prim.Native.Nat.{ℕ, _+_, _-_, _*_, _≤_, _<_}
 use lib.ListN.{length, getD}
 use lib.IntN.{ℤ, pos, natAbs, subℕ, _+ℤ_, _-ℤ_}
-use Rattle.protocol.specs.Types.{HeadRecord, Setting, Judged, Kept, Replayed, Filled}
+use Rattle.protocol.specs.Types.{HeadRecord, Setting, Kept}
 use Rattle.protocol.specs.Words.{bits, timeOf, isCorrect, settingAt}
 use Rattle.protocol.specs.Record.{numberOr0, outcome, correction}
 use Rattle.protocol.specs.Run.{Event, History, recordOf, ran, runSheet}
-use Rattle.protocol.specs.Results.{Replay, wordsPerHead, replay}
+use Rattle.protocol.specs.Results.{wordsPerHead, replay}
 use Rattle.protocol.specs.Premises.{lastStart, judge}
 
 -- "Correct: the head's bit in the first word is set"
@@ -87,5 +87,5 @@ ThirdPoint ws = (h : History) → runSheet ws ≡ ran h → judge ws ≡ Kept �
 -- "Result words: unless cause 5 turns the sheet back", the same of what the replay leaves in the buffer
 abbrev pub ThirdPointInWords : List ℕ → List ℕ → Type 0
 ThirdPointInWords ws out =
-    (h : History) → runSheet ws ≡ ran h → judge ws ≡ Kept → replay ws out .answer ≡ Filled
+    (h : History) → runSheet ws ≡ ran h → judge ws ≡ Kept → wordsPerHead * settingAt ws .n ≤ length out
     → Agreement (settingAt ws) h (endingInWords (replay ws out .buffer))

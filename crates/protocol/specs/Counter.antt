@@ -14,7 +14,7 @@ sinceBase counter base = (counter + 2 ^ 32 - base) % 2 ^ 32
 unfoldable pub counterReading : ℕ → ℕ → Counted
 counterReading counter base = cond (isTime (sinceBase counter base)) (Counts (reading (sinceBase counter base))) (OutOfRange CounterTooFar)
 
--- the cause's number, 0 for none, and the reading
+-- the cause's number, 0 for none, the place 0, and the reading
 abbrev pub countedNumbers : Counted → List ℕ
-countedNumbers (Counts x) = 0 ∷ x .0 ∷ []
-countedNumbers (OutOfRange c) = causeNumber c ∷ 0 ∷ []
+countedNumbers (Counts x) = 0 ∷ 0 ∷ x .0 ∷ []
+countedNumbers (OutOfRange c) = causeNumber c ∷ 0 ∷ 0 ∷ []

@@ -2,7 +2,6 @@
 use mathlib.Core.List.{List, [], _∷_, _++_}
 use Prim.Native.Nat.{ℕ, _+_, _*_, _^_}
 use lib.ListN.{replicate}
-use lib.IntN.{natAbs}
 use Rattle.protocol.specs.Types.{Setting, Entry}
 use Rattle.protocol.specs.Words.{settingAt, entryAt}
 use Rattle.protocol.specs.Record.{correctedClock}
@@ -11,7 +10,7 @@ use Rattle.protocol.specs.Counter.{counterReading, countedNumbers}
 use Rattle.protocol.specs.Run.{Run, stopped, ran, recordOf, runSheet}
 use Rattle.protocol.specs.Results.{Replay, replay, replayedNumbers}
 use Rattle.protocol.specs.Premises.{judge, judgedNumbers}
-use Rattle.protocol.specs.Program.{printSheet}
+use Rattle.protocol.specs.Program.{signed, printSheet}
 
 -- the three words of an entry: "real time, reading, head, action, sender, serial"
 abbrev pub entry : ℕ → ℕ → ℕ → ℕ → ℕ → ℕ → List ℕ
@@ -32,15 +31,18 @@ m1 second =
 abbrev pub replayed : Replay → List ℕ
 replayed x = replayedNumbers (x .answer) ++ x .buffer
 
--- what the look of entry i shows
-abbrev pub clockAfter : Setting → Entry → Run → ℕ
-clockAfter g e (stopped c p) = 0
-clockAfter g e (ran h) = natAbs (correctedClock (recordOf g h (e .head)) (e .reading))
+-- what the look of entry i shows, in decimal
+abbrev pub clockAfter : Setting → Entry → Run → List ℕ
+clockAfter g e (stopped c p) = []
+clockAfter g e (ran h) = signed (correctedClock (recordOf g h (e .head)) (e .reading))
 
-unfoldable pub lookAt : List ℕ → ℕ → ℕ
+unfoldable pub lookAt : List ℕ → ℕ → List ℕ
 lookAt ws i = clockAfter (settingAt ws) (entryAt ws i) (runSheet ws)
 
--- M1's printed lines in ASCII
+-- "The looks show 4000 and 3997", and M1's printed lines, in ASCII
+abbrev pub m1Looks : List ℕ
+m1Looks = 52 ∷ 48 ∷ 48 ∷ 48 ∷ 51 ∷ 57 ∷ 57 ∷ 55 ∷ []
+
 abbrev pub m1Lines : List ℕ
 m1Lines =
     48 ∷ 32 ∷ 50 ∷ 32 ∷ 48 ∷ 32 ∷ 48 ∷ 32 ∷ 49 ∷ 50 ∷ 54 ∷ 48 ∷ 32 ∷ 49 ∷ 50 ∷ 54 ∷ 48 ∷ 32 ∷ 48 ∷ 10
@@ -59,8 +61,8 @@ unfoldable pub marked : List Case
 marked =
     -- M1: the result words and the buffer's seventh word, kept; the premises; the two looks; the printed lines
     gives (replayed (replay (m1 0x2064000A) (replicate 7 1)) ++ judgedNumbers (judge (m1 0x2064000A))
-    ++ (lookAt (m1 0x2064000A) 19 ∷ lookAt (m1 0x2064000A) 20 ∷ printSheet (m1 0x2064000A)))
-    (0 ∷ 0 ∷ 0x62000000 ∷ 0x700004EC ∷ 0x800004EC ∷ 0x62100000 ∷ 0x700004EC ∷ 0x80000521 ∷ 1 ∷ 0 ∷ 0 ∷ 0 ∷ 4000 ∷ 3997 ∷ m1Lines)
+    ++ lookAt (m1 0x2064000A) 19 ++ lookAt (m1 0x2064000A) 20 ++ printSheet (m1 0x2064000A))
+    (0 ∷ 0 ∷ 0x62000000 ∷ 0x700004EC ∷ 0x800004EC ∷ 0x62100000 ∷ 0x700004EC ∷ 0x80000521 ∷ 1 ∷ 0 ∷ 0 ∷ 0 ∷ m1Looks ++ m1Lines)
     -- "M2: M1 with tightness 4 keeps all; M3: with 2, premise 3 is broken"
     ∷ gives (judgedNumbers (judge (m1 0x20640004))) (0 ∷ 0 ∷ 0 ∷ [])
     ∷ gives (judgedNumbers (judge (m1 0x20640002))) (0 ∷ 0 ∷ 3 ∷ [])
@@ -71,9 +73,9 @@ marked =
     ∷ gives (judgedNumbers (judge (0x1042000F ∷ 0x2064000A ∷ []))) (3 ∷ 0 ∷ 0 ∷ [])
     ∷ gives (judgedNumbers (judge (0x1052001F ∷ 0x2064000A ∷ []))) (0 ∷ 0 ∷ 4 ∷ [])
     -- "M8: counter 5, base 4,294,967,290 gives 11. M9: counter 268,435,455, base 0 is accepted, M10: 268,435,456 is cause 11"
-    ∷ gives (countedNumbers (counterReading 5 4294967290)) (0 ∷ 11 ∷ [])
-    ∷ gives (countedNumbers (counterReading 268435455 0)) (0 ∷ 268435455 ∷ [])
-    ∷ gives (countedNumbers (counterReading 268435456 0)) (11 ∷ 0 ∷ [])
+    ∷ gives (countedNumbers (counterReading 5 4294967290)) (0 ∷ 0 ∷ 11 ∷ [])
+    ∷ gives (countedNumbers (counterReading 268435455 0)) (0 ∷ 0 ∷ 268435455 ∷ [])
+    ∷ gives (countedNumbers (counterReading 268435456 0)) (11 ∷ 0 ∷ 0 ∷ [])
     -- "M11: M1's first two words alone: outcomes 0, premise 4 broken"
     ∷ gives (replayed (replay (0x10200003 ∷ 0x2064000A ∷ []) (replicate 6 1)) ++ judgedNumbers (judge (0x10200003 ∷ 0x2064000A ∷ [])))
     (0 ∷ 0 ∷ 0x60000000 ∷ 0x70000000 ∷ 0x80000000 ∷ 0x60100000 ∷ 0x70000000 ∷ 0x80000000 ∷ 0 ∷ 0 ∷ 4 ∷ [])

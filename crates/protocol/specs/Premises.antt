@@ -1,11 +1,11 @@
 -- Document 01, "The eight premises", as tests on a history. "Before and after, earlier and later go by the order of
 -- entries". What document 01 asks of a later entry is asked at the later of the two, so each test looks back only.
-use mathlib.Core.Bool.{Bool, true, false, cond, not, _&&_, _||_}
+use mathlib.Core.Bool.{Bool, true, cond, not, _&&_, _||_}
 use mathlib.Core.List.{List, [], _∷_}
 use Prim.Native.Nat.{ℕ, suc, _+_, _-_, _*_}
 use lib.Dec.{leb, eqb}
 use Rattle.protocol.specs.Base.{_⇒_, any, all, allBelow, countBelow, distance}
-use Rattle.protocol.specs.Types.{Phase, HeadRecord, Setting, Entry, Judged, Kept, Broken, Unjudged}
+use Rattle.protocol.specs.Types.{Setting, Entry, Judged, Kept, Broken, Unjudged}
 use Rattle.protocol.specs.Words.{isCorrect, settingAt}
 use Rattle.protocol.specs.Causes.{causeNumber}
 use Rattle.protocol.specs.Run.{Event, History, recordOf, Run, stopped, ran, runSheet}

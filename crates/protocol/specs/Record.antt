@@ -1,6 +1,5 @@
 -- Document 01, "Actions and steps of one head h": the record, and what is read off it.
 use mathlib.Core.Bool.{Bool, true, false, cond, not, _&&_, _||_}
-use mathlib.Core.List.{List, []}
 use Prim.Native.Nat.{ℕ, _+_}
 use lib.Dec.{ltb, leb, eqb}
 use lib.ListN.{getD, replicate}

@@ -73,7 +73,7 @@ inputOf e x =
       serial = e .serial;
       choice = carriedChoice x;
       carried = readingOr0 (carriedReading x);
-      none = not (isReading (carriedReading x));
+      none = eqb (e .action) 5 && not (isReading (carriedReading x));
     }
 
 abbrev pub lastTime : History → ℕ

@@ -6,7 +6,7 @@ use lib.Dec.{ltb, leb, eqb}
 use lib.ListN.{length, getD, set}
 use Rattle.protocol.specs.Base.{countBelow}
 use Rattle.protocol.specs.Types.{Reading, OptReading, NoReading, SomeReading, OptNumber, NoNumber, SomeNumber, Sender, Phase, HeadRecord, Input, Cause, BadEntry, ReadingFell, ActionClosed, BadRecord}
-use Rattle.protocol.specs.Types.{Verdict, Accepted, Refused, Stepped, Frame, NoFrame, Start, Vote, Adjust}
+use Rattle.protocol.specs.Types.{Accepted, Refused, Stepped, Frame, NoFrame, Start, Vote, Adjust}
 use Rattle.protocol.specs.Types.{Action, Look, StartSent, StartDelivered, StartConfirmed, VoteTurn, VoteDelivered, VoteClose, AdjustTurn, AdjustDelivered, AdjustClose}
 use Rattle.protocol.specs.Words.{isTime, hasSerial, zeroWhereUnused}
 use Rattle.protocol.specs.Record.{isReading, isNumber, reading, keptOf, startOf, voteOf, recordInRange}

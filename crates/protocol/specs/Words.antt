@@ -73,6 +73,10 @@ entryFits n t a w =
     && (leb (bits w 27 24) 9 && (ltb (bits w 23 20) n && (ltb (bits w 19 16) n
     && zeroWhereUnused (bits w 27 24) (bits w 19 16) (bits w 15 12)))))))
 
+-- "At most 4,096 entries: 12,290 words"
+abbrev pub mostWords : ℕ
+mostWords = 2 + 3 * 4096
+
 -- the sheet's setting, the number of its entries, and the place of entry i: the index of its first word
 abbrev pub settingAt : List ℕ → Setting
 settingAt ws = settingOf (getD ws 0 0) (getD ws 1 0)
