@@ -1,0 +1,90 @@
+-- An action as the code takes it: first whether the record and the action fit its arrays and its bytes, then takeAction.
+use mathlib.Core.Bool.{Bool, true, cond, not, _&&_, _||_}
+use Prim.Native.Nat.{ℕ}
+use lib.Dec.{ltb, leb}
+use lib.ListN.{length}
+use Rattle.protocol.specs.declared.Reading.{Reading}
+use Rattle.protocol.specs.declared.HeadRecord.{HeadRecord}
+use Rattle.protocol.specs.declared.Cause.the-variants.{BadEntry, ReadingFell, ActionClosed, BadRecord}
+use Rattle.protocol.specs.declared.Verdict.{Verdict}
+use Rattle.protocol.specs.declared.Verdict.the-variants.{Accepted, Refused}
+use Rattle.protocol.specs.declared.Stepped.{Stepped}
+use Rattle.protocol.specs.declared.Action.{Action}
+use Rattle.protocol.specs.declared.Action.the-variants.{Look, StartSent, StartDelivered, StartConfirmed, VoteTurn, VoteDelivered, VoteClose, AdjustTurn, AdjustDelivered, AdjustClose}
+use Rattle.protocol.specs.Record.{isNumber, reading}
+use Rattle.protocol.specs.Median.{median}
+use Rattle.protocol.specs.Step.{startsHeld, voteReadings, refused, takeAction}
+use Rattle.closed.specs.declared.Marks.{Marks}
+use Rattle.closed.specs.Closed.{closedBy}
+use Rattle.deeds.specs.declared.Brief.{Brief}
+use Rattle.deeds.specs.declared.Speech.{Speech}
+use Rattle.deeds.specs.declared.Speech.the-variants.{Quiet, Starting, Voting, Adjusting}
+use Rattle.deeds.specs.Deeds.{briefFrom}
+use Rattle.actions.specs.declared.admit.Admission.{Admission}
+
+-- a record less n, f and what it keeps by sender, with reading y as the last reading
+abbrev pub briefOf : HeadRecord → Reading → Brief
+briefOf r y = briefFrom (r .own) y (r .started) (r .confirmed) (r .vote) (r .adjust) (r .adjustment)
+
+abbrev pub marksIn : Brief → Marks
+marksIn b =
+    record {
+      started = b .started;
+      confirmed = b .confirmed;
+      «vote_turn» = b .vote .turn;
+      «vote_closed» = b .vote .closed;
+      «adjust_turn» = b .adjust .turn;
+      «adjust_closed» = b .adjust .closed;
+      candidate = isNumber (b .vote .choice);
+    }
+
+-- n and the head's number are in the array, and each count of frames can grow in its byte: so in a record in its ranges
+unfoldable pub briefFits : ℕ → Brief → Bool
+briefFits n b = leb n 16 && (ltb (b .own) 16 && (ltb (b .vote .sent) 255 && ltb (b .adjust .sent) 255))
+
+-- a sender, and a candidate to vote for, are in the array
+unfoldable pub numbersFit : Action → Bool
+numbersFit Look = true
+numbersFit StartSent = true
+numbersFit (StartDelivered p) = ltb p 16
+numbersFit StartConfirmed = true
+numbersFit VoteTurn = true
+numbersFit (VoteDelivered p k c x) = ltb p 16 && ltb c 16
+numbersFit VoteClose = true
+numbersFit AdjustTurn = true
+numbersFit (AdjustDelivered p k c x) = ltb p 16
+numbersFit AdjustClose = true
+
+unfoldable pub verdictOf : ℕ → Brief → Reading → Bool → Action → Verdict
+verdictOf n b x sent a =
+    cond (briefFits n b)
+    (cond (numbersFit a)
+    (cond (ltb (x .0) (b .last .0)) (Refused ReadingFell)
+    (cond (not sent || closedBy (marksIn b) (b .own) a) (Refused ActionClosed) Accepted))
+    (Refused BadEntry))
+    (Refused BadRecord)
+
+-- a refused action is a look at the last reading
+abbrev pub withReading : Brief → Reading → Brief
+withReading b x = record { own = b .own; last = x; started = b .started; confirmed = b .confirmed; vote = b .vote; adjust = b .adjust; adjustment = b .adjustment }
+
+abbrev pub admittedBy : Verdict → Brief → Reading → Action → Admission
+admittedBy Accepted b x a = record { verdict = Accepted; brief = withReading b x; action = a }
+admittedBy (Refused c) b x a = record { verdict = Refused c; brief = b; action = Look }
+
+unfoldable pub admissionOf : ℕ → Brief → Reading → Bool → Action → Admission
+admissionOf n b x sent a = admittedBy (verdictOf n b x sent a) b x a
+
+-- what is said once the readings are counted
+unfoldable pub countedOf : HeadRecord → Speech → Speech
+countedOf r Quiet = Quiet
+countedOf r Starting = Starting
+countedOf r (Voting c) = cond (ltb (r .f) (startsHeld r)) (Voting c) Quiet
+countedOf r (Adjusting c x) = cond (leb 1 (length (voteReadings r (r .n)))) (Adjusting c (reading (median (voteReadings r (r .n))))) Quiet
+
+-- takeAction, of what fits
+unfoldable pub takeFitting : HeadRecord → Reading → Bool → Action → Stepped
+takeFitting r x sent a =
+    cond (briefFits (r .n) (briefOf r (r .last)))
+    (cond (numbersFit a) (takeAction r x sent a) (refused r BadEntry))
+    (refused r BadRecord)

@@ -1,0 +1,2 @@
+-- One action of one head.
+pub mod Actions

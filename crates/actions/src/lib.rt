@@ -1,0 +1,70 @@
+// One action of one head.
+mod admit;
+mod count;
+
+use admit::admit_action;
+use count::count_first;
+use deeds::act;
+use deeds::adjust_after;
+use deeds::adjustment_after;
+use deeds::frame_of;
+use deeds::keep_own;
+use deeds::last_of;
+use deeds::sender_of;
+use deeds::unstarted;
+use deeds::vote_after;
+use deeds::voted_for;
+use protocol::Action;
+use protocol::HeadRecord;
+use protocol::Reading;
+use protocol::Stepped;
+ghost use mathlib.Core.Path.{_≡_};
+ghost use Prim.Native.Nat.{_%_};
+ghost use Rattle.actions.specs.Actions.{takeFitting};
+
+// The place of sender p.
+fn seat(p: u8) -> usize
+    ensures { λ i. ⌜ i ≡ p % 16 ⌝ }
+{
+    (p % 16) as usize
+}
+
+// One action of the head with record r: what takeAction says, but for a record or an action that the code cannot take
+// in (cause 10, 6). A refused action is a look at the last reading. The record is changed in place: each call that takes
+// it costs a copy.
+pub fn take_action(r: HeadRecord, x: Reading, sent: bool, a: Action) -> Stepped
+    ensures { λ s. ⌜ s ≡ takeFitting r x sent a ⌝ }
+{
+    let mut t = r;
+    let mut before = unstarted(t.own, t.last, t.vote, t.adjust, t.adjustment);
+    before.started = t.started;
+    before.confirmed = t.confirmed;
+    let m = admit_action(t.n, before, x, sent, a);
+    let action = m.action;
+    let i = seat(sender_of(t.own, action));
+    let d = act(m.brief, t.senders[i], action);
+    let kept = d.kept;
+    t.senders[i] = kept;
+    let mut s = d.speech;
+    if d.counts {
+        s = count_first(t, s);
+    }
+    let c = seat(voted_for(t.own, s));
+    let e = t.senders[c];
+    let j = seat(t.own);
+    t.senders[j] = keep_own(t.senders[j], s, e);
+    let b = d.brief;
+    t.last = last_of(b);
+    t.started = b.started;
+    t.confirmed = b.confirmed;
+    t.vote = vote_after(b, s);
+    t.adjust = adjust_after(b, s);
+    t.adjustment = adjustment_after(b, s);
+    let verdict = m.verdict;
+    let frame = frame_of(b, s, e);
+    Stepped {
+        verdict,
+        after: t,
+        frame,
+    }
+}

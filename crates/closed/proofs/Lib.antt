@@ -1,0 +1,2 @@
+-- The code's test is the definition's.
+pub mod Same

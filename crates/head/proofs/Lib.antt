@@ -1,0 +1,2 @@
+-- What the step and the counter rest on.
+pub mod Laws

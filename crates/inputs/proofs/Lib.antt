@@ -1,0 +1,2 @@
+-- The numbers of the actions.
+pub mod Numbers

@@ -1,0 +1,111 @@
+// The numbers that a caller gives for one head: whether they fit, and the action that they make.
+use protocol::Action;
+use protocol::Input;
+use protocol::OptReading;
+use protocol::Reading;
+ghost use mathlib.Core.Path.{_≡_};
+ghost use mathlib.Core.Bool.{not, cond, _&&_, _||_};
+ghost use Prim.Native.Nat.{_<_};
+ghost use lib.Dec.{eqb};
+ghost use Rattle.protocol.specs.Words.{isTime, hasSerial, hasSender, zeroWhereUnused};
+ghost use Rattle.protocol.specs.Record.{reading};
+ghost use Rattle.protocol.specs.Step.{inputFits, actionOf};
+
+fn is_time(t: u32) -> bool
+    ensures { λ b. ⌜ b ≡ isTime t ⌝ }
+{
+    t < 268435456
+}
+
+fn has_serial(a: u32) -> bool
+    ensures { λ b. ⌜ b ≡ hasSerial a ⌝ }
+{
+    a == 5 || a == 8
+}
+
+fn has_sender(a: u32) -> bool
+    ensures { λ b. ⌜ b ≡ hasSender a ⌝ }
+{
+    a == 2 || has_serial(a)
+}
+
+fn sender_fits(a: u32, sender: u32) -> bool
+    ensures { λ b. ⌜ b ≡ (hasSender a || eqb sender 0) ⌝ }
+{
+    has_sender(a) || sender == 0
+}
+
+fn serial_fits(a: u32, serial: u32) -> bool
+    ensures { λ b. ⌜ b ≡ (hasSerial a || eqb serial 0) ⌝ }
+{
+    has_serial(a) || serial == 0
+}
+
+fn zero_where_unused(a: u32, sender: u32, serial: u32) -> bool
+    ensures { λ b. ⌜ b ≡ zeroWhereUnused a sender serial ⌝ }
+{
+    sender_fits(a, sender) && serial_fits(a, serial)
+}
+
+// Only a vote or an adjust carries something.
+fn carried_fits(a: u32, choice: u32, carried: u32) -> bool
+    ensures { λ b. ⌜ b ≡ (hasSerial a || (eqb choice 0 && eqb carried 0)) ⌝ }
+{
+    has_serial(a) || (choice == 0 && carried == 0)
+}
+
+// Only a vote has the mark "none", with a reading of 0.
+fn none_fits(a: u32, none: bool, carried: u32) -> bool
+    ensures { λ b. ⌜ b ≡ (not none || (eqb a 5 && eqb carried 0)) ⌝ }
+{
+    !none || (a == 5 && carried == 0)
+}
+
+// Whether the numbers fit a bench of n heads (else cause 6).
+pub fn input_fits(n: u8, i: Input) -> bool
+    ensures { λ b. ⌜ b ≡ inputFits n i ⌝ }
+{
+    let m = n as u32;
+    i.action <= 9
+        && (i.sender < m
+            && (i.serial <= 15
+                && (zero_where_unused(i.action, i.sender, i.serial)
+                    && (is_time(i.reading)
+                        && (i.choice < m
+                            && (is_time(i.carried)
+                                && (carried_fits(i.action, i.choice, i.carried)
+                                    && none_fits(i.action, i.none, i.carried))))))))
+}
+
+fn carried_reading(none: bool, carried: u32) -> OptReading
+    ensures { λ x. ⌜ x ≡ cond none OptReading.NoReading (OptReading.SomeReading (reading carried)) ⌝ }
+{
+    if none {
+        OptReading::NoReading
+    } else {
+        OptReading::SomeReading(Reading(carried))
+    }
+}
+
+// The action that fitting numbers make.
+pub fn action_of(i: Input) -> Action
+    requires { ⌜ (i .sender < 16) × (i .serial < 16) × (i .choice < 16) ⌝ }
+    ensures { λ a. ⌜ a ≡ actionOf i ⌝ }
+{
+    let p = i.sender as u8;
+    let k = i.serial as u8;
+    let c = i.choice as u8;
+    let n = i.action;
+    match n {
+        1 => Action::StartSent,
+        2 => Action::StartDelivered(p),
+        3 => Action::StartConfirmed,
+        4 => Action::VoteTurn,
+        5 => Action::VoteDelivered(p, k, c, carried_reading(i.none, i.carried)),
+        6 => Action::VoteClose,
+        7 => Action::AdjustTurn,
+        8 => Action::AdjustDelivered(p, k, c, Reading(i.carried)),
+        9 => Action::AdjustClose,
+        _ => Action::Look,
+    }
+}

@@ -1,0 +1,3 @@
+-- What is proved of the counts.
+pub mod Ranks
+pub mod Readings

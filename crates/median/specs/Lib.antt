@@ -1,0 +1,2 @@
+-- What the code of the median counts.
+pub mod Ranks

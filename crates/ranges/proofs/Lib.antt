@@ -1,0 +1,2 @@
+-- The code's tests together are the definition's.
+pub mod Parts

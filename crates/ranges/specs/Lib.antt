@@ -1,0 +1,2 @@
+-- The ranges of a record, in the parts that the code tests.
+pub mod Ranges
