@@ -1,0 +1,135 @@
+// The words of a run sheet, taken apart and tested: document 01, "Words of a run sheet".
+// Bits HIGH–LOW of a word are the word shifted right by LOW, modulo 2 to the number of those bits.
+// The parts of a test are joined by `&` and `|`: each part is total, and costs less than a branch.
+ghost use mathlib.Core.Path.{_≡_};
+ghost use Prim.Native.Nat.{_^_};
+ghost use lib.Dec.{ltb};
+ghost use Rattle.protocol.specs.Words.{kindOf, isTime, settingOf, isCorrect, headsFit, firstWordFits, secondWordFits};
+ghost use Rattle.protocol.specs.Words.{entryOf, hasSerial, hasSender, zeroWhereUnused, entryFits};
+use protocol::Entry;
+use protocol::Reading;
+use protocol::RealTime;
+use protocol::Setting;
+
+// 2²⁸: "Times are microseconds in 28 bits"
+const TIMES: u32 = 268435456;
+
+// "the top four bits are the kind"
+fn kind(w: u32) -> u32
+    ensures { λ r. ⌜ r ≡ kindOf w ⌝ }
+{
+    (w >> 28) % 16
+}
+
+pub fn is_time(x: u32) -> bool
+    ensures { λ r. ⌜ r ≡ isTime x ⌝ }
+{
+    x < TIMES
+}
+
+// "First word, kind 1: bits 27–20 n (heads, 2..16), 19–16 f, 15–0 one bit per correct head"
+// "Second word, kind 2: bits 27–16 drift in parts per million, 15–0 tightness in microseconds"
+pub fn setting_of(a: u32, b: u32) -> Setting
+    ensures { λ r. ⌜ r ≡ settingOf a b ⌝ }
+{
+    Setting {
+        n: ((a >> 20) % 256) as u8,
+        f: ((a >> 16) % 16) as u8,
+        correct: (a % 65536) as u16,
+        drift: ((b >> 16) % 4096) as u16,
+        tightness: (b % 65536) as u16,
+    }
+}
+
+// "bit 0 for head 0"; of 16 bits there is none at 16 or above
+pub fn is_correct(g: Setting, q: u8) -> bool
+    ensures { λ r. ⌜ r ≡ isCorrect g q ⌝ }
+{
+    if q < 16 {
+        (g.correct >> q) % 2 == 1
+    } else {
+        false
+    }
+}
+
+// "n (heads, 2..16)"; "2f + 1 is at most n"
+pub fn heads_fit(n: u8, f: u8) -> bool
+    ensures { λ r. ⌜ r ≡ headsFit n f ⌝ }
+{
+    (2 <= n) & ((n <= 16) & (2 * (f as u16) + 1 <= n as u16))
+}
+
+// cause 3: whether there is no "correct bit at n or above"
+fn none_from(correct: u16, n: u8) -> bool
+    ensures { λ r. ⌜ r ≡ ltb correct (2 ^ n) ⌝ }
+{
+    if n < 16 { correct >> n == 0 } else { true }
+}
+
+// cause 3: "first word against its rules, or a correct bit at n or above"
+pub fn first_word_fits(a: u32) -> bool
+    ensures { λ r. ⌜ r ≡ firstWordFits a ⌝ }
+{
+    let g = setting_of(a, 0);
+    (kind(a) == 1) & (heads_fit(g.n, g.f) & none_from(g.correct, g.n))
+}
+
+// cause 4: "second word not kind 2"
+pub fn second_word_fits(b: u32) -> bool
+    ensures { λ r. ⌜ r ≡ secondWordFits b ⌝ }
+{
+    kind(b) == 2
+}
+
+// "kind 3 with the real time, kind 4 with the head's reading (of the clock in use)",
+// "bits 27–24 action, 23–20 head, 19–16 sender, 15–12 serial"
+pub fn entry_of(t: u32, a: u32, w: u32) -> Entry
+    ensures { λ r. ⌜ r ≡ entryOf t a w ⌝ }
+{
+    let time = RealTime(t % TIMES);
+    let reading = Reading(a % TIMES);
+    Entry {
+        time,
+        reading,
+        head: ((w >> 20) % 16) as u8,
+        action: ((w >> 24) % 16) as u8,
+        sender: ((w >> 16) % 16) as u8,
+        serial: ((w >> 12) % 16) as u8,
+    }
+}
+
+// the actions with a serial, 5 and 8
+pub fn has_serial(a: u8) -> bool
+    ensures { λ r. ⌜ r ≡ hasSerial a ⌝ }
+{
+    (a == 5) | (a == 8)
+}
+
+// the actions with a sender, 2, 5 and 8
+pub fn has_sender(a: u8) -> bool
+    ensures { λ r. ⌜ r ≡ hasSender a ⌝ }
+{
+    (a == 2) | has_serial(a)
+}
+
+// "Sender is zero except in actions 2, 5, 8; serial is zero except in 5 and 8"
+pub fn zero_where_unused(a: u8, sender: u8, serial: u8) -> bool
+    ensures { λ r. ⌜ r ≡ zeroWhereUnused a sender serial ⌝ }
+{
+    (has_sender(a) | (sender == 0)) & (has_serial(a) | (serial == 0))
+}
+
+// cause 6: "entry's kinds, action above 9, head or sender not below n, a must-be-zero field"
+pub fn entry_fits(n: u8, t: u32, a: u32, w: u32) -> bool
+    ensures { λ r. ⌜ r ≡ entryFits n t a w ⌝ }
+{
+    let e = entry_of(t, a, w);
+    (kind(t) == 3)
+        & ((kind(a) == 4)
+            & ((kind(w) == 5)
+                & ((w % 4096 == 0)
+                    & ((e.action <= 9)
+                        & ((e.head < n)
+                            & ((e.sender < n)
+                                & zero_where_unused(e.action, e.sender, e.serial)))))))
+}
