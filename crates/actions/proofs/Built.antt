@@ -32,22 +32,22 @@ use Rattle.protocol.specs.Step.{takeTurn, close, choose, withStart, withVoteRea
 use Rattle.protocol.proofs.Tests.{absurd-bool, cases, cond-elim, and-left, and-right}
 use Rattle.closed.specs.Closed.{closedBy}
 use Rattle.closed.proofs.Same.{closed-by}
-use Rattle.deeds.specs.declared.Brief.{Brief}
-use Rattle.deeds.specs.declared.Speech.{Speech}
-use Rattle.deeds.specs.declared.Speech.the-variants.{Quiet, Starting, Voting, Adjusting}
-use Rattle.deeds.specs.declared.Deed.{Deed}
-use Rattle.deeds.specs.Deeds.{withMarks, withPhases, saying, quiet, waits, leading, startDelivered, voteTurn, voteDelivered, adjustTurn, adjustDelivered, deedOf, senderOf, votedFor, keepOwn, chooseByte, voteAfter, adjustAfter, adjustmentAfter, frameOf}
+use Rattle.changes.specs.declared.State.{State}
+use Rattle.changes.specs.declared.Message.{Message}
+use Rattle.changes.specs.declared.Message.the-variants.{NoMessage, StartMessage, VoteMessage, AdjustMessage}
+use Rattle.changes.specs.declared.Change.{Change}
+use Rattle.changes.specs.Changes.{withMarks, withPhases, saying, quiet, waits, leading, startDelivered, voteTurn, voteDelivered, adjustTurn, adjustDelivered, changeOf, senderOf, votedFor, keepOwn, chooseByte, voteAfter, adjustAfter, adjustmentAfter, frameOf}
 use Rattle.actions.specs.declared.admit.Admission.{Admission}
-use Rattle.actions.specs.Actions.{briefOf, marksIn, briefFits, numbersFit, verdictOf, admittedBy, admissionOf, countedOf, takeFitting}
+use Rattle.actions.specs.Actions.{stateOf, marksIn, stateFits, numbersFit, verdictOf, admittedBy, admissionOf, countedOf, takeFitting}
 
 -- WHAT THE CODE BUILDS
 
 -- the record of a small part and a list of what is kept by sender
-abbrev pub recordFrom : HeadRecord → Brief → List Sender → HeadRecord
+abbrev pub recordFrom : HeadRecord → State → List Sender → HeadRecord
 recordFrom r b l = record { n = r .n; f = r .f; own = b .own; last = b .last; started = b .started; confirmed = b .confirmed; vote = b .vote; adjust = b .adjust; adjustment = b .adjustment; senders = l }
 
--- what speech s leaves, c being the place of the head that is voted for and j the head's own
-abbrev pub finish : HeadRecord → Verdict → Brief → List Sender → Speech → ℕ → ℕ → Stepped
+-- what message s leaves, c being the place of the head that is voted for and j the head's own
+abbrev pub finish : HeadRecord → Verdict → State → List Sender → Message → ℕ → ℕ → Stepped
 finish r v b l s c j =
     record {
       verdict = v;
@@ -67,118 +67,118 @@ finish r v b l s c j =
       frame = frameOf b s (getD l c noSender .start);
     }
 
-abbrev pub said : HeadRecord → ℕ → Deed → Speech
-said r i d = cond (d .counts) (countedOf (withSender r i (d .kept)) (d .speech)) (d .speech)
+abbrev pub sending : HeadRecord → ℕ → Change → Message
+sending r i d = cond (d .counts) (countedOf (withSender r i (d .kept)) (d .message)) (d .message)
 
-abbrev pub builtBy : HeadRecord → Verdict → ℕ → Deed → Stepped
-builtBy r v i d = finish r v (d .brief) (set (r .senders) i (d .kept)) (said r i d) (votedFor (r .own) (said r i d) % 16) (r .own % 16)
+abbrev pub builtBy : HeadRecord → Verdict → ℕ → Change → Stepped
+builtBy r v i d = finish r v (d .state) (set (r .senders) i (d .kept)) (sending r i d) (votedFor (r .own) (sending r i d) % 16) (r .own % 16)
 
-abbrev pub deedAt : HeadRecord → ℕ → Admission → Deed
-deedAt r i m = deedOf (m .brief) (getD (r .senders) i noSender) (m .action)
+abbrev pub changeAt : HeadRecord → ℕ → Admission → Change
+changeAt r i m = changeOf (m .state) (getD (r .senders) i noSender) (m .action)
 
 abbrev pub built : HeadRecord → Admission → Stepped
-built r m = builtBy r (m .verdict) (senderOf (r .own) (m .action) % 16) (deedAt r (senderOf (r .own) (m .action) % 16) m)
+built r m = builtBy r (m .verdict) (senderOf (r .own) (m .action) % 16) (changeAt r (senderOf (r .own) (m .action) % 16) m)
 
 -- A REFUSED ACTION CHANGES NOTHING
 
 abbrev withSenders : HeadRecord → List Sender → HeadRecord
-withSenders r l = recordFrom r (briefOf r (r .last)) l
+withSenders r l = recordFrom r (stateOf r (r .last)) l
 
 kept-same : (l : List Sender) (i j : ℕ) → set (set l i (getD l i noSender)) j (getD (set l i (getD l i noSender)) j noSender) ≡ l
 kept-same l i j = set-getD (set l i (getD l i noSender)) j noSender ∙ set-getD l i noSender
 
-built-refused : (r : HeadRecord) (c : Cause) → built r (record { verdict = Refused c; brief = briefOf r (r .last); action = Look }) ≡ refused r c
+built-refused : (r : HeadRecord) (c : Cause) → built r (record { verdict = Refused c; state = stateOf r (r .last); action = Look }) ≡ refused r c
 built-refused r c = ap (λ (l : List Sender). refused (withSenders r l) c) (kept-same (r .senders) (r .own % 16) (r .own % 16))
 
 -- WHAT A SPEECH LEAVES
 
-abbrev utter : Speech → HeadRecord → Stepped
-utter Quiet m = silent m
-utter Starting m = accepted m Start
-utter (Voting c) m = vote c m
-utter (Adjusting c x) m = adjust c x m
+abbrev withMessageOf : Message → HeadRecord → Stepped
+withMessageOf NoMessage m = silent m
+withMessageOf StartMessage m = accepted m Start
+withMessageOf (VoteMessage c) m = vote c m
+withMessageOf (AdjustMessage c x) m = adjust c x m
 
 choose-byte : (c : ℕ) (p : Phase) → p .sent < 255 → chooseByte c p ≡ choose c p
 choose-byte c p h =
     ap (λ (k : ℕ). record { turn = p .turn; closed = p .closed; choice = choose c p .choice; sent = k }) (mod-eq-of-lt (omega arith))
 
-finish-utters : (r : HeadRecord) (b : Brief) (l : List Sender) (s : Speech) (c j : ℕ) → b .own ≡ r .own → j ≡ r .own → c ≡ votedFor (r .own) s
-    → b .vote .sent < 255 → b .adjust .sent < 255 → finish r Accepted b l s c j ≡ utter s (recordFrom r b l)
+finish-sends : (r : HeadRecord) (b : State) (l : List Sender) (s : Message) (c j : ℕ) → b .own ≡ r .own → j ≡ r .own → c ≡ votedFor (r .own) s
+    → b .vote .sent < 255 → b .adjust .sent < 255 → finish r Accepted b l s c j ≡ withMessageOf s (recordFrom r b l)
 unfolding vote adjust
-finish-utters r b l Quiet c j o p q g h = rw (sym o, set-getD l j noSender) refl
-finish-utters r b l Starting c j o p q g h = rw (sym o, set-getD l j noSender) refl
-finish-utters r b l (Voting v) c j o p q g h = rw (p, q, sym o, choose-byte v (b .vote) g) refl
-finish-utters r b l (Adjusting v x) c j o p q g h = rw (sym o, set-getD l j noSender, choose-byte v (b .adjust) h) refl
+finish-sends r b l NoMessage c j o p q g h = rw (sym o, set-getD l j noSender) refl
+finish-sends r b l StartMessage c j o p q g h = rw (sym o, set-getD l j noSender) refl
+finish-sends r b l (VoteMessage v) c j o p q g h = rw (p, q, sym o, choose-byte v (b .vote) g) refl
+finish-sends r b l (AdjustMessage v x) c j o p q g h = rw (sym o, set-getD l j noSender, choose-byte v (b .adjust) h) refl
 
 -- WHAT AN ACTION DOES
 
--- what an action needs for its speech to be said as it is
-pub record Sayable (r : HeadRecord) (d : Deed) : Type 0 where
-  pub same : d .brief .own ≡ r .own
-  pub votes : d .brief .vote .sent < 255
-  pub adjusts : d .brief .adjust .sent < 255
-  pub named : votedFor (r .own) (d .speech) < 16
+-- what an action needs for its message to be sending as it is
+pub record Sendable (r : HeadRecord) (d : Change) : Type 0 where
+  pub same : d .state .own ≡ r .own
+  pub votes : d .state .vote .sent < 255
+  pub adjusts : d .state .adjust .sent < 255
+  pub named : votedFor (r .own) (d .message) < 16
 
-counted-named : (r m : HeadRecord) (s : Speech) → r .own < 16 → votedFor (r .own) s < 16 → votedFor (r .own) (countedOf m s) < 16
+counted-named : (r m : HeadRecord) (s : Message) → r .own < 16 → votedFor (r .own) s < 16 → votedFor (r .own) (countedOf m s) < 16
 unfolding countedOf
-counted-named r m Quiet o h = h
-counted-named r m Starting o h = h
-counted-named r m (Voting c) o h = cond-elim (λ (s : Speech). votedFor (r .own) s < 16) (ltb (m .f) (startsHeld m)) (λ t. h) (λ t. o)
-counted-named r m (Adjusting c x) o h =
-    cond-elim (λ (s : Speech). votedFor (r .own) s < 16) (leb 1 (length (voteReadings m (m .n)))) (λ t. o) (λ t. o)
+counted-named r m NoMessage o h = h
+counted-named r m StartMessage o h = h
+counted-named r m (VoteMessage c) o h = cond-elim (λ (s : Message). votedFor (r .own) s < 16) (ltb (m .f) (startsHeld m)) (λ t. h) (λ t. o)
+counted-named r m (AdjustMessage c x) o h =
+    cond-elim (λ (s : Message). votedFor (r .own) s < 16) (leb 1 (length (voteReadings m (m .n)))) (λ t. o) (λ t. o)
 
-said-named : (r : HeadRecord) (i : ℕ) (d : Deed) → r .own < 16 → votedFor (r .own) (d .speech) < 16 → votedFor (r .own) (said r i d) < 16
-said-named r i d o h = cond-elim (λ (s : Speech). votedFor (r .own) s < 16) (d .counts) (λ t. counted-named r _ (d .speech) o h) (λ t. h)
+sending-named : (r : HeadRecord) (i : ℕ) (d : Change) → r .own < 16 → votedFor (r .own) (d .message) < 16 → votedFor (r .own) (sending r i d) < 16
+sending-named r i d o h = cond-elim (λ (s : Message). votedFor (r .own) s < 16) (d .counts) (λ t. counted-named r _ (d .message) o h) (λ t. h)
 
-abbrev uttered : HeadRecord → ℕ → Deed → Stepped
-uttered r i d = utter (said r i d) (recordFrom r (d .brief) (set (r .senders) i (d .kept)))
+abbrev withMessage : HeadRecord → ℕ → Change → Stepped
+withMessage r i d = withMessageOf (sending r i d) (recordFrom r (d .state) (set (r .senders) i (d .kept)))
 
-built-utters : (r : HeadRecord) (i : ℕ) (d : Deed) → r .own < 16 → Sayable r d → builtBy r Accepted i d ≡ uttered r i d
-built-utters r i d o h =
-    finish-utters r (d .brief) (set (r .senders) i (d .kept)) (said r i d) _ _ (h .same) (mod-eq-of-lt o)
-    (mod-eq-of-lt (said-named r i d o (h .named))) (h .votes) (h .adjusts)
+built-sends : (r : HeadRecord) (i : ℕ) (d : Change) → r .own < 16 → Sendable r d → builtBy r Accepted i d ≡ withMessage r i d
+built-sends r i d o h =
+    finish-sends r (d .state) (set (r .senders) i (d .kept)) (sending r i d) _ _ (h .same) (mod-eq-of-lt o)
+    (mod-eq-of-lt (sending-named r i d o (h .named))) (h .votes) (h .adjusts)
 
-sayable-cond : (r : HeadRecord) (t : Bool) {d e : Deed} → Sayable r d → Sayable r e → Sayable r (cond t d e)
+sayable-cond : (r : HeadRecord) (t : Bool) {d e : Change} → Sendable r d → Sendable r e → Sendable r (cond t d e)
 sayable-cond r true h g = h
 sayable-cond r false h g = g
 
-module _ (r : HeadRecord) (x : Reading) (fits : briefFits (r .n) (briefOf r (r .last)) ≡ true) where
+module _ (r : HeadRecord) (x : Reading) (fits : stateFits (r .n) (stateOf r (r .last)) ≡ true) where
   own-fits : r .own < 16
-  unfolding briefFits
+  unfolding stateFits
   own-fits = ltb-true (r .own) 16 (and-left (ltb (r .own) 16) _ (and-right (leb (r .n) 16) _ fits))
 
   votes-fit : r .vote .sent < 255
-  unfolding briefFits
+  unfolding stateFits
   votes-fit =
       ltb-true (r .vote .sent) 255 (and-left (ltb (r .vote .sent) 255) _ (and-right (ltb (r .own) 16) _ (and-right (leb (r .n) 16) _ fits)))
 
   adjusts-fit : r .adjust .sent < 255
-  unfolding briefFits
+  unfolding stateFits
   adjusts-fit =
       ltb-true (r .adjust .sent) 255 (and-right (ltb (r .vote .sent) 255) _ (and-right (ltb (r .own) 16) _ (and-right (leb (r .n) 16) _ fits)))
 
-  -- a deed whose small part keeps the head's number and counts
-  plain : (b : Brief) (e : Sender) (s : Speech) (k : Bool) → b .own ≡ r .own → b .vote .sent ≡ r .vote .sent → b .adjust .sent ≡ r .adjust .sent
-      → votedFor (r .own) s < 16 → Sayable r (saying b e s k)
+  -- a change whose small part keeps the head's number and counts
+  plain : (b : State) (e : Sender) (s : Message) (k : Bool) → b .own ≡ r .own → b .vote .sent ≡ r .vote .sent → b .adjust .sent ≡ r .adjust .sent
+      → votedFor (r .own) s < 16 → Sendable r (saying b e s k)
   plain b e s k o v w h =
       record { same = o; votes = (let z = votes-fit in omega arith); adjusts = (let z = adjusts-fit in omega arith); named = h }
 
-  mild : (b : Brief) (e : Sender) → b .own ≡ r .own → b .vote .sent ≡ r .vote .sent → b .adjust .sent ≡ r .adjust .sent → Sayable r (quiet b e)
-  mild b e o v w = plain b e Quiet false o v w own-fits
+  mild : (b : State) (e : Sender) → b .own ≡ r .own → b .vote .sent ≡ r .vote .sent → b .adjust .sent ≡ r .adjust .sent → Sendable r (quiet b e)
+  mild b e o v w = plain b e NoMessage false o v w own-fits
 
-  abbrev now : Brief
-  now = briefOf r x
+  abbrev now : State
+  now = stateOf r x
 
-  lead-sayable : (b : Brief) (e : Sender) → b .own ≡ r .own → b .vote .sent ≡ r .vote .sent → b .adjust .sent ≡ r .adjust .sent → Sayable r (leading b e)
+  lead-sayable : (b : State) (e : Sender) → b .own ≡ r .own → b .vote .sent ≡ r .vote .sent → b .adjust .sent ≡ r .adjust .sent → Sendable r (leading b e)
   unfolding leading
   lead-sayable b e o v w =
-      sayable-cond r (waits (b .vote)) {d = saying b e (Voting (b .own)) true} {e = quiet b e}
-      (plain b e (Voting (b .own)) true o v w (let z = own-fits in omega arith)) (mild b e o v w)
+      sayable-cond r (waits (b .vote)) {d = saying b e (VoteMessage (b .own)) true} {e = quiet b e}
+      (plain b e (VoteMessage (b .own)) true o v w (let z = own-fits in omega arith)) (mild b e o v w)
 
-  sayable : (e : Sender) (a : Action) → numbersFit a ≡ true → Sayable r (deedOf now e a)
+  sayable : (e : Sender) (a : Action) → numbersFit a ≡ true → Sendable r (changeOf now e a)
   unfolding startDelivered voteTurn voteDelivered adjustTurn adjustDelivered numbersFit
   sayable e Look f = mild now e refl refl refl
-  sayable e StartSent f = plain (withMarks now true (r .confirmed)) e Starting false refl refl refl own-fits
+  sayable e StartSent f = plain (withMarks now true (r .confirmed)) e StartMessage false refl refl refl own-fits
   sayable e (StartDelivered p) f =
       let k = withStart e (SomeReading x) in
       sayable-cond r (r .adjust .closed) {d = quiet now e} {e = leading now k} (mild now e refl refl refl) (lead-sayable now k refl refl refl)
@@ -186,32 +186,32 @@ module _ (r : HeadRecord) (x : Reading) (fits : briefFits (r .n) (briefOf r (r .
   sayable e VoteTurn f = lead-sayable (withPhases now (takeTurn (r .vote)) (r .adjust)) e refl refl refl
   sayable e (VoteDelivered p k c y) f =
       let t = withVoted (withVoteReading e y) k in
-      sayable-cond r (r .vote .closed || not (isAbove k (e .voted))) {d = quiet now e} {e = cond (outranks c (r .vote .choice)) (saying now t (Voting c) false) (quiet now t)}
+      sayable-cond r (r .vote .closed || not (isAbove k (e .voted))) {d = quiet now e} {e = cond (outranks c (r .vote .choice)) (saying now t (VoteMessage c) false) (quiet now t)}
       (mild now e refl refl refl)
-      (sayable-cond r (outranks c (r .vote .choice)) {d = saying now t (Voting c) false} {e = quiet now t}
-      (plain now t (Voting c) false refl refl refl (ltb-true c 16 (and-right (ltb p 16) _ f))) (mild now t refl refl refl))
+      (sayable-cond r (outranks c (r .vote .choice)) {d = saying now t (VoteMessage c) false} {e = quiet now t}
+      (plain now t (VoteMessage c) false refl refl refl (ltb-true c 16 (and-right (ltb p 16) _ f))) (mild now t refl refl refl))
   sayable e VoteClose f = mild (withPhases now (close (r .vote)) (r .adjust)) e refl refl refl
   sayable e AdjustTurn f =
       let b = withPhases now (r .vote) (takeTurn (r .adjust)) in
-      sayable-cond r (isNumber (r .vote .choice) && not (isNumber (r .adjust .choice))) {d = saying b e (Adjusting (r .own) (reading 0)) true} {e = quiet b e}
-      (plain b e (Adjusting (r .own) (reading 0)) true refl refl refl own-fits) (mild b e refl refl refl)
+      sayable-cond r (isNumber (r .vote .choice) && not (isNumber (r .adjust .choice))) {d = saying b e (AdjustMessage (r .own) (reading 0)) true} {e = quiet b e}
+      (plain b e (AdjustMessage (r .own) (reading 0)) true refl refl refl own-fits) (mild b e refl refl refl)
   sayable e (AdjustDelivered p k c y) f =
       let t = withAdjusted e k in
-      sayable-cond r (r .adjust .closed || not (isAbove k (e .adjusted))) {d = quiet now e} {e = cond (outranks c (r .adjust .choice)) (saying now t (Adjusting c y) false) (quiet now t)}
+      sayable-cond r (r .adjust .closed || not (isAbove k (e .adjusted))) {d = quiet now e} {e = cond (outranks c (r .adjust .choice)) (saying now t (AdjustMessage c y) false) (quiet now t)}
       (mild now e refl refl refl)
-      (sayable-cond r (outranks c (r .adjust .choice)) {d = saying now t (Adjusting c y) false} {e = quiet now t}
-      (plain now t (Adjusting c y) false refl refl refl own-fits) (mild now t refl refl refl))
+      (sayable-cond r (outranks c (r .adjust .choice)) {d = saying now t (AdjustMessage c y) false} {e = quiet now t}
+      (plain now t (AdjustMessage c y) false refl refl refl own-fits) (mild now t refl refl refl))
   sayable e AdjustClose f = mild (withPhases now (r .vote) (close (r .adjust))) e refl refl refl
 
 -- THE DEFINITION'S EFFECT
 
-uttered-cond : (r : HeadRecord) (i : ℕ) (t : Bool) (d e : Deed) → uttered r i (cond t d e) ≡ cond t (uttered r i d) (uttered r i e)
-uttered-cond r i true d e = refl
-uttered-cond r i false d e = refl
+withMessage-cond : (r : HeadRecord) (i : ℕ) (t : Bool) (d e : Change) → withMessage r i (cond t d e) ≡ cond t (withMessage r i d) (withMessage r i e)
+withMessage-cond r i true d e = refl
+withMessage-cond r i false d e = refl
 
-utter-cond : (t : Bool) (s u : Speech) (m : HeadRecord) → utter (cond t s u) m ≡ cond t (utter s m) (utter u m)
-utter-cond true s u m = refl
-utter-cond false s u m = refl
+withMessageOf-cond : (t : Bool) (s u : Message) (m : HeadRecord) → withMessageOf (cond t s u) m ≡ cond t (withMessageOf s m) (withMessageOf u m)
+withMessageOf-cond true s u m = refl
+withMessageOf-cond false s u m = refl
 
 same-kept : {A : Type 0} (g : List Sender → A) (l : List Sender) (i : ℕ) → g (set l i (getD l i noSender)) ≡ g l
 same-kept g l i = ap g (set-getD l i noSender)
@@ -231,12 +231,12 @@ two-more false n q x y = refl
 above-le : (f k : ℕ) → ltb f k ≡ leb (f + 1) k
 above-le f k = rw add-one refl
 
-leads : (r : HeadRecord) (i : ℕ) (b : Brief) (k : Sender) → uttered r i (leading b k) ≡ lead (recordFrom r b (set (r .senders) i k))
+leads : (r : HeadRecord) (i : ℕ) (b : State) (k : Sender) → withMessage r i (leading b k) ≡ lead (recordFrom r b (set (r .senders) i k))
 unfolding leading waits lead mayLead countedOf startsHeld
 leads r i b k =
     let m = recordFrom r b (set (r .senders) i k) in
-    uttered-cond r i (waits (b .vote)) (saying b k (Voting (b .own)) true) (quiet b k)
-    ∙ ap (λ (z : Stepped). cond (waits (b .vote)) z (silent m)) (utter-cond (ltb (r .f) (startsHeld m)) (Voting (b .own)) Quiet m)
+    withMessage-cond r i (waits (b .vote)) (saying b k (VoteMessage (b .own)) true) (quiet b k)
+    ∙ ap (λ (z : Stepped). cond (waits (b .vote)) z (silent m)) (withMessageOf-cond (ltb (r .f) (startsHeld m)) (VoteMessage (b .own)) NoMessage m)
     ∙ ap (λ (q : Bool). cond (waits (b .vote)) (cond q (vote (b .own) m) (silent m)) (silent m)) (above-le (r .f) (startsHeld m))
     ∙ one-more (b .vote .turn) (b .vote .closed) (isNumber (b .vote .choice)) (leb (r .f + 1) (startsHeld m)) (vote (b .own) m) (silent m)
 
@@ -245,8 +245,8 @@ unfolding voteReadings
 readings-of r m e zero = refl
 readings-of r m e (suc k) = ap₂ (λ (l : List Sender) (z : List ℕ). prepend (getD l k noSender .vote) z) e (readings-of r m e k)
 
-proposes : (r : HeadRecord) (i : ℕ) (b : Brief) (k : Sender)
-    → uttered r i (cond (isNumber (b .vote .choice) && not (isNumber (b .adjust .choice))) (saying b k (Adjusting (b .own) (reading 0)) true) (quiet b k))
+proposes : (r : HeadRecord) (i : ℕ) (b : State) (k : Sender)
+    → withMessage r i (cond (isNumber (b .vote .choice) && not (isNumber (b .adjust .choice))) (saying b k (AdjustMessage (b .own) (reading 0)) true) (quiet b k))
     ≡ propose (recordFrom r b (set (r .senders) i k))
 unfolding propose mayAdjust countedOf
 proposes r i b k =
@@ -254,10 +254,10 @@ proposes r i b k =
     let t = isNumber (b .vote .choice) && not (isNumber (b .adjust .choice)) in
     let q = leb 1 (length (voteReadings m (m .n))) in
     let y = reading (median (voteReadings m (m .n))) in
-    uttered-cond r i t (saying b k (Adjusting (b .own) (reading 0)) true) (quiet b k)
-    ∙ ap (λ (l : List ℕ). cond t (utter (cond (leb 1 (length l)) (Adjusting (b .own) (reading (median l))) Quiet) m) (silent m))
+    withMessage-cond r i t (saying b k (AdjustMessage (b .own) (reading 0)) true) (quiet b k)
+    ∙ ap (λ (l : List ℕ). cond t (withMessageOf (cond (leb 1 (length l)) (AdjustMessage (b .own) (reading (median l))) NoMessage) m) (silent m))
     (readings-of (withSender r i k) m refl (r .n))
-    ∙ ap (λ (z : Stepped). cond t z (silent m)) (utter-cond q (Adjusting (b .own) y) Quiet m)
+    ∙ ap (λ (z : Stepped). cond t z (silent m)) (withMessageOf-cond q (AdjustMessage (b .own) y) NoMessage m)
     ∙ two-more (isNumber (b .vote .choice)) (isNumber (b .adjust .choice)) q (adjust (b .own) y m) (silent m)
 
 -- what an action says is what it does, i being the place of its sender
@@ -265,43 +265,43 @@ module _ (r : HeadRecord) (x : Reading) where
   abbrev at : ℕ → Sender
   at i = getD (r .senders) i noSender
 
-  deed-effect : (a : Action) → uttered r (senderOf (r .own) a) (deedOf (briefOf r x) (at (senderOf (r .own) a)) a) ≡ effect (withLast r x) a
+  change-effect : (a : Action) → withMessage r (senderOf (r .own) a) (changeOf (stateOf r x) (at (senderOf (r .own) a)) a) ≡ effect (withLast r x) a
   unfolding startDelivered voteTurn voteDelivered adjustTurn adjustDelivered effect delivered
-  deed-effect Look = same-kept (λ (l : List Sender). silent (recordFrom r (briefOf r x) l)) (r .senders) (r .own)
-  deed-effect StartSent = same-kept (λ (l : List Sender). accepted (recordFrom r (withMarks (briefOf r x) true (r .confirmed)) l) Start) (r .senders) (r .own)
-  deed-effect (StartDelivered p) =
+  change-effect Look = same-kept (λ (l : List Sender). silent (recordFrom r (stateOf r x) l)) (r .senders) (r .own)
+  change-effect StartSent = same-kept (λ (l : List Sender). accepted (recordFrom r (withMarks (stateOf r x) true (r .confirmed)) l) Start) (r .senders) (r .own)
+  change-effect (StartDelivered p) =
       let k = withStart (at p) (SomeReading x) in
-      uttered-cond r p (r .adjust .closed) (quiet (briefOf r x) (at p)) (leading (briefOf r x) k)
+      withMessage-cond r p (r .adjust .closed) (quiet (stateOf r x) (at p)) (leading (stateOf r x) k)
       ∙ ap₂ (λ (y z : Stepped). cond (r .adjust .closed) y z)
-      (same-kept (λ (l : List Sender). silent (recordFrom r (briefOf r x) l)) (r .senders) p) (leads r p (briefOf r x) k)
-  deed-effect StartConfirmed = same-kept (λ (l : List Sender). silent (recordFrom r (withMarks (briefOf r x) (r .started) true) l)) (r .senders) (r .own)
-  deed-effect VoteTurn =
-      let b = withPhases (briefOf r x) (takeTurn (r .vote)) (r .adjust) in
+      (same-kept (λ (l : List Sender). silent (recordFrom r (stateOf r x) l)) (r .senders) p) (leads r p (stateOf r x) k)
+  change-effect StartConfirmed = same-kept (λ (l : List Sender). silent (recordFrom r (withMarks (stateOf r x) (r .started) true) l)) (r .senders) (r .own)
+  change-effect VoteTurn =
+      let b = withPhases (stateOf r x) (takeTurn (r .vote)) (r .adjust) in
       leads r (r .own) b (at (r .own)) ∙ same-kept (λ (l : List Sender). lead (recordFrom r b l)) (r .senders) (r .own)
-  deed-effect (VoteDelivered p k c y) =
-      let b = briefOf r x in
+  change-effect (VoteDelivered p k c y) =
+      let b = stateOf r x in
       let e = withVoted (withVoteReading (at p) y) k in
       let m = recordFrom r b (set (r .senders) p e) in
       let t = r .vote .closed || not (isAbove k (at p .voted)) in
       let o = outranks c (r .vote .choice) in
-      uttered-cond r p t (quiet b (at p)) (cond o (saying b e (Voting c) false) (quiet b e))
+      withMessage-cond r p t (quiet b (at p)) (cond o (saying b e (VoteMessage c) false) (quiet b e))
       ∙ ap₂ (λ (y z : Stepped). cond t y z)
       (same-kept (λ (l : List Sender). silent (recordFrom r b l)) (r .senders) p)
-      (uttered-cond r p o (saying b e (Voting c) false) (quiet b e))
-  deed-effect VoteClose = same-kept (λ (l : List Sender). silent (recordFrom r (withPhases (briefOf r x) (close (r .vote)) (r .adjust)) l)) (r .senders) (r .own)
-  deed-effect AdjustTurn =
-      let b = withPhases (briefOf r x) (r .vote) (takeTurn (r .adjust)) in
+      (withMessage-cond r p o (saying b e (VoteMessage c) false) (quiet b e))
+  change-effect VoteClose = same-kept (λ (l : List Sender). silent (recordFrom r (withPhases (stateOf r x) (close (r .vote)) (r .adjust)) l)) (r .senders) (r .own)
+  change-effect AdjustTurn =
+      let b = withPhases (stateOf r x) (r .vote) (takeTurn (r .adjust)) in
       proposes r (r .own) b (at (r .own)) ∙ same-kept (λ (l : List Sender). propose (recordFrom r b l)) (r .senders) (r .own)
-  deed-effect (AdjustDelivered p k c y) =
-      let b = briefOf r x in
+  change-effect (AdjustDelivered p k c y) =
+      let b = stateOf r x in
       let e = withAdjusted (at p) k in
       let t = r .adjust .closed || not (isAbove k (at p .adjusted)) in
       let o = outranks c (r .adjust .choice) in
-      uttered-cond r p t (quiet b (at p)) (cond o (saying b e (Adjusting c y) false) (quiet b e))
+      withMessage-cond r p t (quiet b (at p)) (cond o (saying b e (AdjustMessage c y) false) (quiet b e))
       ∙ ap₂ (λ (y z : Stepped). cond t y z)
       (same-kept (λ (l : List Sender). silent (recordFrom r b l)) (r .senders) p)
-      (uttered-cond r p o (saying b e (Adjusting c y) false) (quiet b e))
-  deed-effect AdjustClose = same-kept (λ (l : List Sender). silent (recordFrom r (withPhases (briefOf r x) (r .vote) (close (r .adjust))) l)) (r .senders) (r .own)
+      (withMessage-cond r p o (saying b e (AdjustMessage c y) false) (quiet b e))
+  change-effect AdjustClose = same-kept (λ (l : List Sender). silent (recordFrom r (withPhases (stateOf r x) (r .vote) (close (r .adjust))) l)) (r .senders) (r .own)
 
 -- MAIN RESULTS
 
@@ -318,26 +318,26 @@ sender-fits r AdjustTurn o f = o
 sender-fits r (AdjustDelivered p k c x) o f = ltb-true p 16 f
 sender-fits r AdjustClose o f = o
 
-built-accepted : (r : HeadRecord) (x : Reading) (a : Action) → briefFits (r .n) (briefOf r (r .last)) ≡ true → numbersFit a ≡ true
-    → built r (record { verdict = Accepted; brief = briefOf r x; action = a }) ≡ effect (withLast r x) a
+built-accepted : (r : HeadRecord) (x : Reading) (a : Action) → stateFits (r .n) (stateOf r (r .last)) ≡ true → numbersFit a ≡ true
+    → built r (record { verdict = Accepted; state = stateOf r x; action = a }) ≡ effect (withLast r x) a
 built-accepted r x a f g =
     let o = own-fits r x f in
     let p = senderOf (r .own) a in
-    ap (λ (i : ℕ). builtBy r Accepted i (deedOf (briefOf r x) (getD (r .senders) i noSender) a)) (mod-eq-of-lt (sender-fits r a o g))
-    ∙ built-utters r p _ o (sayable r x f (getD (r .senders) p noSender) a g) ∙ deed-effect r x a
+    ap (λ (i : ℕ). builtBy r Accepted i (changeOf (stateOf r x) (getD (r .senders) i noSender) a)) (mod-eq-of-lt (sender-fits r a o g))
+    ∙ built-sends r p _ o (sayable r x f (getD (r .senders) p noSender) a g) ∙ change-effect r x a
 
-pub built-takes : (r : HeadRecord) (x : Reading) (sent : Bool) (a : Action) → built r (admissionOf (r .n) (briefOf r (r .last)) x sent a) ≡ takeFitting r x sent a
+pub built-takes : (r : HeadRecord) (x : Reading) (sent : Bool) (a : Action) → built r (admissionOf (r .n) (stateOf r (r .last)) x sent a) ≡ takeFitting r x sent a
 unfolding admissionOf verdictOf takeFitting takeAction
 built-takes r x sent a =
-    go (briefFits (r .n) b) refl (numbersFit a) refl (ltb (x .0) (r .last .0)) (not sent || closedBy (marksIn b) (r .own) a)
-    ∙ ap (λ (t : Bool). cond (briefFits (r .n) b) (cond (numbersFit a) (cond (ltb (x .0) (r .last .0)) (refused r ReadingFell)
+    go (stateFits (r .n) b) refl (numbersFit a) refl (ltb (x .0) (r .last .0)) (not sent || closedBy (marksIn b) (r .own) a)
+    ∙ ap (λ (t : Bool). cond (stateFits (r .n) b) (cond (numbersFit a) (cond (ltb (x .0) (r .last .0)) (refused r ReadingFell)
     (cond (not sent || t) (refused r ActionClosed) (effect (withLast r x) a))) (refused r BadEntry)) (refused r BadRecord)) (closed-by r a)
   where
-    b : Brief
-    b = briefOf r (r .last)
+    b : State
+    b = stateOf r (r .last)
 
-    go : (f : Bool) → briefFits (r .n) (briefOf r (r .last)) ≡ f → (n : Bool) → numbersFit a ≡ n → (l s : Bool)
-        → built r (admittedBy (cond f (cond n (cond l (Refused ReadingFell) (cond s (Refused ActionClosed) Accepted)) (Refused BadEntry)) (Refused BadRecord)) (briefOf r (r .last)) x a)
+    go : (f : Bool) → stateFits (r .n) (stateOf r (r .last)) ≡ f → (n : Bool) → numbersFit a ≡ n → (l s : Bool)
+        → built r (admittedBy (cond f (cond n (cond l (Refused ReadingFell) (cond s (Refused ActionClosed) Accepted)) (Refused BadEntry)) (Refused BadRecord)) (stateOf r (r .last)) x a)
         ≡ cond f (cond n (cond l (refused r ReadingFell) (cond s (refused r ActionClosed) (effect (withLast r x) a))) (refused r BadEntry)) (refused r BadRecord)
     go false e n h l s = built-refused r BadRecord
     go true e false h l s = built-refused r BadEntry
@@ -345,34 +345,34 @@ built-takes r x sent a =
     go true e true h false true = built-refused r ActionClosed
     go true e true h false false = built-accepted r x a e h
 
-pub counts-fit : (n : ℕ) (b : Brief) (x : Reading) (sent : Bool) (a : Action) (e : Sender)
-    → deedOf (admissionOf n b x sent a .brief) e (admissionOf n b x sent a .action) .counts ≡ true → n ≤ 16
-unfolding admissionOf verdictOf briefFits
+pub counts-fit : (n : ℕ) (b : State) (x : Reading) (sent : Bool) (a : Action) (e : Sender)
+    → changeOf (admissionOf n b x sent a .state) e (admissionOf n b x sent a .action) .counts ≡ true → n ≤ 16
+unfolding admissionOf verdictOf stateFits
 counts-fit n b x sent a e h =
     cases (leb n 16) (leb-true n 16) (λ t. absurd-bool (rw t at h) refl)
 
-pub said-when : (r : HeadRecord) (i : ℕ) (d : Deed) (s : Speech)
-    → ((d .counts ≡ true) × (s ≡ countedOf (withSender r i (d .kept)) (d .speech))) ⊎ ((d .counts ≡ false) × (s ≡ d .speech)) → s ≡ said r i d
-said-when r i d s (inl (t, e)) = rw t e
-said-when r i d s (inr (t, e)) = rw t e
+pub sending-when : (r : HeadRecord) (i : ℕ) (d : Change) (s : Message)
+    → ((d .counts ≡ true) × (s ≡ countedOf (withSender r i (d .kept)) (d .message))) ⊎ ((d .counts ≡ false) × (s ≡ d .message)) → s ≡ sending r i d
+sending-when r i d s (inl (t, e)) = rw t e
+sending-when r i d s (inr (t, e)) = rw t e
 
 -- the code's steps one by one
-pub whole : (r : HeadRecord) (x : Reading) (sent : Bool) (a : Action) (m : Admission) (p i : ℕ) (d : Deed) (s : Speech) (u c j : ℕ) (k : Sender)
+pub whole : (r : HeadRecord) (x : Reading) (sent : Bool) (a : Action) (m : Admission) (p i : ℕ) (d : Change) (s : Message) (u c j : ℕ) (k : Sender)
     (z : Reading) (v w : Phase) (y : Reading) (f : Frame)
-    → m ≡ admissionOf (r .n) (briefOf r (r .last)) x sent a
+    → m ≡ admissionOf (r .n) (stateOf r (r .last)) x sent a
     → p ≡ senderOf (r .own) (m .action)
     → i ≡ p % 16
-    → d ≡ deedOf (m .brief) (getD (r .senders) i noSender) (m .action)
-    → s ≡ said r i d
+    → d ≡ changeOf (m .state) (getD (r .senders) i noSender) (m .action)
+    → s ≡ sending r i d
     → u ≡ votedFor (r .own) s
     → c ≡ u % 16
     → j ≡ r .own % 16
     → k ≡ keepOwn (getD (set (r .senders) i (d .kept)) j noSender) s (getD (set (r .senders) i (d .kept)) c noSender .start)
-    → z ≡ d .brief .last
-    → v ≡ voteAfter (d .brief) s
-    → w ≡ adjustAfter (d .brief) s
-    → y ≡ adjustmentAfter (d .brief) s
-    → f ≡ frameOf (d .brief) s (getD (set (r .senders) i (d .kept)) c noSender .start)
+    → z ≡ d .state .last
+    → v ≡ voteAfter (d .state) s
+    → w ≡ adjustAfter (d .state) s
+    → y ≡ adjustmentAfter (d .state) s
+    → f ≡ frameOf (d .state) s (getD (set (r .senders) i (d .kept)) c noSender .start)
     → _≡_ {A = Stepped}
     (record {
       verdict = m .verdict;
@@ -382,8 +382,8 @@ pub whole : (r : HeadRecord) (x : Reading) (sent : Bool) (a : Action) (m : Admis
             f = r .f;
             own = r .own;
             last = z;
-            started = d .brief .started;
-            confirmed = d .brief .confirmed;
+            started = d .state .started;
+            confirmed = d .state .confirmed;
             vote = v;
             adjust = w;
             adjustment = y;

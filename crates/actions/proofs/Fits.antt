@@ -14,7 +14,7 @@ use Rattle.protocol.specs.Words.{isTime, headsFit}
 use Rattle.protocol.specs.Record.{isNumber, sentInRange, phaseInRange, recordInRange}
 use Rattle.protocol.specs.Step.{takeAction}
 use Rattle.protocol.proofs.Tests.{and-left, and-right, and-both}
-use Rattle.actions.specs.Actions.{briefOf, briefFits, numbersFit, takeFitting}
+use Rattle.actions.specs.Actions.{stateOf, stateFits, numbersFit, takeFitting}
 
 sent-le : (n : ℕ) (c : OptNumber) (k : ℕ) → n ≤ 16 → sentInRange n c k ≡ true → k < 255
 sent-le n NoNumber k h e = let z = eqb-true k 0 e in omega arith
@@ -44,8 +44,8 @@ module _ (r : HeadRecord) (e : recordInRange r ≡ true) where
       let e5 = and-right (isNumber (r .adjust .choice) || eqb (r .adjustment .0) 0) _ e4 in
       (and-left (phaseInRange (r .n) (r .vote)) _ e5, and-left (phaseInRange (r .n) (r .adjust)) _ (and-right (phaseInRange (r .n) (r .vote)) _ e5))
 
-  pub range-fits : briefFits (r .n) (briefOf r (r .last)) ≡ true
-  unfolding briefFits phaseInRange
+  pub range-fits : stateFits (r .n) (stateOf r (r .last)) ≡ true
+  unfolding stateFits phaseInRange
   range-fits =
       let h = heads-le in
       let v = sent-le (r .n) (r .vote .choice) (r .vote .sent) h (phases .0) in

@@ -16,17 +16,17 @@ use Rattle.protocol.specs.Median.{median}
 use Rattle.protocol.specs.Step.{startsHeld, voteReadings, refused, takeAction}
 use Rattle.closed.specs.declared.Marks.{Marks}
 use Rattle.closed.specs.Closed.{closedBy}
-use Rattle.deeds.specs.declared.Brief.{Brief}
-use Rattle.deeds.specs.declared.Speech.{Speech}
-use Rattle.deeds.specs.declared.Speech.the-variants.{Quiet, Starting, Voting, Adjusting}
-use Rattle.deeds.specs.Deeds.{briefFrom}
+use Rattle.changes.specs.declared.State.{State}
+use Rattle.changes.specs.declared.Message.{Message}
+use Rattle.changes.specs.declared.Message.the-variants.{NoMessage, StartMessage, VoteMessage, AdjustMessage}
+use Rattle.changes.specs.Changes.{stateFrom}
 use Rattle.actions.specs.declared.admit.Admission.{Admission}
 
 -- a record less n, f and what it keeps by sender, with reading y as the last reading
-abbrev pub briefOf : HeadRecord → Reading → Brief
-briefOf r y = briefFrom (r .own) y (r .started) (r .confirmed) (r .vote) (r .adjust) (r .adjustment)
+abbrev pub stateOf : HeadRecord → Reading → State
+stateOf r y = stateFrom (r .own) y (r .started) (r .confirmed) (r .vote) (r .adjust) (r .adjustment)
 
-abbrev pub marksIn : Brief → Marks
+abbrev pub marksIn : State → Marks
 marksIn b =
     record {
       started = b .started;
@@ -39,8 +39,8 @@ marksIn b =
     }
 
 -- n and the head's number are in the array, and each count of frames can grow in its byte: so in a record in its ranges
-unfoldable pub briefFits : ℕ → Brief → Bool
-briefFits n b = leb n 16 && (ltb (b .own) 16 && (ltb (b .vote .sent) 255 && ltb (b .adjust .sent) 255))
+unfoldable pub stateFits : ℕ → State → Bool
+stateFits n b = leb n 16 && (ltb (b .own) 16 && (ltb (b .vote .sent) 255 && ltb (b .adjust .sent) 255))
 
 -- a sender, and a candidate to vote for, are in the array
 unfoldable pub numbersFit : Action → Bool
@@ -55,9 +55,9 @@ numbersFit AdjustTurn = true
 numbersFit (AdjustDelivered p k c x) = ltb p 16
 numbersFit AdjustClose = true
 
-unfoldable pub verdictOf : ℕ → Brief → Reading → Bool → Action → Verdict
+unfoldable pub verdictOf : ℕ → State → Reading → Bool → Action → Verdict
 verdictOf n b x sent a =
-    cond (briefFits n b)
+    cond (stateFits n b)
     (cond (numbersFit a)
     (cond (ltb (x .0) (b .last .0)) (Refused ReadingFell)
     (cond (not sent || closedBy (marksIn b) (b .own) a) (Refused ActionClosed) Accepted))
@@ -65,26 +65,26 @@ verdictOf n b x sent a =
     (Refused BadRecord)
 
 -- a refused action is a look at the last reading
-abbrev pub withReading : Brief → Reading → Brief
+abbrev pub withReading : State → Reading → State
 withReading b x = record { own = b .own; last = x; started = b .started; confirmed = b .confirmed; vote = b .vote; adjust = b .adjust; adjustment = b .adjustment }
 
-abbrev pub admittedBy : Verdict → Brief → Reading → Action → Admission
-admittedBy Accepted b x a = record { verdict = Accepted; brief = withReading b x; action = a }
-admittedBy (Refused c) b x a = record { verdict = Refused c; brief = b; action = Look }
+abbrev pub admittedBy : Verdict → State → Reading → Action → Admission
+admittedBy Accepted b x a = record { verdict = Accepted; state = withReading b x; action = a }
+admittedBy (Refused c) b x a = record { verdict = Refused c; state = b; action = Look }
 
-unfoldable pub admissionOf : ℕ → Brief → Reading → Bool → Action → Admission
+unfoldable pub admissionOf : ℕ → State → Reading → Bool → Action → Admission
 admissionOf n b x sent a = admittedBy (verdictOf n b x sent a) b x a
 
--- what is said once the readings are counted
-unfoldable pub countedOf : HeadRecord → Speech → Speech
-countedOf r Quiet = Quiet
-countedOf r Starting = Starting
-countedOf r (Voting c) = cond (ltb (r .f) (startsHeld r)) (Voting c) Quiet
-countedOf r (Adjusting c x) = cond (leb 1 (length (voteReadings r (r .n)))) (Adjusting c (reading (median (voteReadings r (r .n))))) Quiet
+-- what is sending once the readings are counted
+unfoldable pub countedOf : HeadRecord → Message → Message
+countedOf r NoMessage = NoMessage
+countedOf r StartMessage = StartMessage
+countedOf r (VoteMessage c) = cond (ltb (r .f) (startsHeld r)) (VoteMessage c) NoMessage
+countedOf r (AdjustMessage c x) = cond (leb 1 (length (voteReadings r (r .n)))) (AdjustMessage c (reading (median (voteReadings r (r .n))))) NoMessage
 
 -- takeAction, of what fits
 unfoldable pub takeFitting : HeadRecord → Reading → Bool → Action → Stepped
 takeFitting r x sent a =
-    cond (briefFits (r .n) (briefOf r (r .last)))
+    cond (stateFits (r .n) (stateOf r (r .last)))
     (cond (numbersFit a) (takeAction r x sent a) (refused r BadEntry))
     (refused r BadRecord)

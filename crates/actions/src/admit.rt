@@ -1,8 +1,8 @@
 // Whether an action is taken.
+use changes::State;
+use changes::is_number;
 use closed::Marks;
 use closed::is_closed;
-use deeds::Brief;
-use deeds::is_number;
 use protocol::Action;
 use protocol::Cause;
 use protocol::Reading;
@@ -10,18 +10,18 @@ use protocol::Verdict;
 ghost use mathlib.Core.Path.{_≡_};
 ghost use mathlib.Core.Bool.{not, _||_};
 ghost use Rattle.closed.specs.Closed.{closedBy};
-ghost use Rattle.actions.specs.Actions.{briefFits, numbersFit, marksIn, verdictOf, admissionOf};
+ghost use Rattle.actions.specs.Actions.{stateFits, numbersFit, marksIn, verdictOf, admissionOf};
 
 // The verdict on an action, and what is then done: a refused action is a look at the last reading.
 pub struct Admission {
     pub verdict: Verdict,
-    pub brief: Brief,
+    pub state: State,
     pub action: Action,
 }
 
 // Whether a record can be taken in: what the code indexes by and adds to is in its ranges.
-fn brief_fits(n: u8, b: Brief) -> bool
-    ensures { λ t. ⌜ t ≡ briefFits n b ⌝ }
+fn state_fits(n: u8, b: State) -> bool
+    ensures { λ t. ⌜ t ≡ stateFits n b ⌝ }
 {
     n <= 16 && (b.own < 16 && (b.vote.sent < 255 && b.adjust.sent < 255))
 }
@@ -44,7 +44,7 @@ fn numbers_fit(a: Action) -> bool
     }
 }
 
-fn marks_in(b: Brief) -> Marks
+fn marks_in(b: State) -> Marks
     ensures { λ m. ⌜ m ≡ marksIn b ⌝ }
 {
     let v = b.vote;
@@ -61,16 +61,16 @@ fn marks_in(b: Brief) -> Marks
 }
 
 // Cause 9: an action that is closed, or a frame that was not sent.
-fn is_shut(sent: bool, b: Brief, a: Action) -> bool
+fn is_shut(sent: bool, b: State, a: Action) -> bool
     ensures { λ t. ⌜ t ≡ (not sent || closedBy (marksIn b) (b .own) a) ⌝ }
 {
     !sent || is_closed(marks_in(b), b.own, a)
 }
 
-fn verdict_of(n: u8, b: Brief, x: Reading, sent: bool, a: Action) -> Verdict
+fn verdict_of(n: u8, b: State, x: Reading, sent: bool, a: Action) -> Verdict
     ensures { λ v. ⌜ v ≡ verdictOf n b x sent a ⌝ }
 {
-    if brief_fits(n, b) {
+    if state_fits(n, b) {
         if numbers_fit(a) {
             if x.0 < b.last.0 {
                 return Verdict::Refused(Cause::ReadingFell);
@@ -87,7 +87,7 @@ fn verdict_of(n: u8, b: Brief, x: Reading, sent: bool, a: Action) -> Verdict
     }
 }
 
-pub fn admit_action(n: u8, b: Brief, x: Reading, sent: bool, a: Action) -> Admission
+pub fn admit_action(n: u8, b: State, x: Reading, sent: bool, a: Action) -> Admission
     ensures { λ m. ⌜ m ≡ admissionOf n b x sent a ⌝ }
 {
     let v = verdict_of(n, b, x, sent, a);
@@ -97,13 +97,13 @@ pub fn admit_action(n: u8, b: Brief, x: Reading, sent: bool, a: Action) -> Admis
             t.last = x;
             Admission {
                 verdict: v,
-                brief: t,
+                state: t,
                 action: a,
             }
         }
         Verdict::Refused(_) => Admission {
             verdict: v,
-            brief: b,
+            state: b,
             action: Action::Look,
         },
     }

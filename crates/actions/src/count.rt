@@ -1,5 +1,5 @@
 // What a head says once it has counted its readings.
-use deeds::Speech;
+use changes::Message;
 use median::starts_held;
 use median::vote_median;
 use median::votes_held;
@@ -9,25 +9,25 @@ ghost use Prim.Native.Nat.{_≤_};
 ghost use Rattle.actions.specs.Actions.{countedOf};
 
 // A vote needs more than f start readings, an adjust at least one vote reading, of which it takes the median.
-pub fn count_first(r: HeadRecord, s: Speech) -> Speech
+pub fn count_first(r: HeadRecord, s: Message) -> Message
     requires { ⌜ r .n ≤ 16 ⌝ }
     ensures { λ t. ⌜ t ≡ countedOf r s ⌝ }
 {
     match s {
-        Speech::Quiet => Speech::Quiet,
-        Speech::Starting => Speech::Starting,
-        Speech::Voting(c) => {
+        Message::NoMessage => Message::NoMessage,
+        Message::StartMessage => Message::StartMessage,
+        Message::VoteMessage(c) => {
             if r.f < starts_held(r) {
-                Speech::Voting(c)
+                Message::VoteMessage(c)
             } else {
-                Speech::Quiet
+                Message::NoMessage
             }
         }
-        Speech::Adjusting(c, _) => {
+        Message::AdjustMessage(c, _) => {
             if 1 <= votes_held(r) {
-                Speech::Adjusting(c, vote_median(r))
+                Message::AdjustMessage(c, vote_median(r))
             } else {
-                Speech::Quiet
+                Message::NoMessage
             }
         }
     }

@@ -3,17 +3,17 @@ mod admit;
 mod count;
 
 use admit::admit_action;
+use changes::act;
+use changes::adjust_after;
+use changes::adjustment_after;
+use changes::frame_of;
+use changes::keep_own;
+use changes::last_of;
+use changes::sender_of;
+use changes::unstarted;
+use changes::vote_after;
+use changes::voted_for;
 use count::count_first;
-use deeds::act;
-use deeds::adjust_after;
-use deeds::adjustment_after;
-use deeds::frame_of;
-use deeds::keep_own;
-use deeds::last_of;
-use deeds::sender_of;
-use deeds::unstarted;
-use deeds::vote_after;
-use deeds::voted_for;
 use protocol::Action;
 use protocol::HeadRecord;
 use protocol::Reading;
@@ -42,10 +42,10 @@ pub fn take_action(r: HeadRecord, x: Reading, sent: bool, a: Action) -> Stepped
     let m = admit_action(t.n, before, x, sent, a);
     let action = m.action;
     let i = seat(sender_of(t.own, action));
-    let d = act(m.brief, t.senders[i], action);
+    let d = act(m.state, t.senders[i], action);
     let kept = d.kept;
     t.senders[i] = kept;
-    let mut s = d.speech;
+    let mut s = d.message;
     if d.counts {
         s = count_first(t, s);
     }
@@ -53,7 +53,7 @@ pub fn take_action(r: HeadRecord, x: Reading, sent: bool, a: Action) -> Stepped
     let e = t.senders[c];
     let j = seat(t.own);
     t.senders[j] = keep_own(t.senders[j], s, e);
-    let b = d.brief;
+    let b = d.state;
     t.last = last_of(b);
     t.started = b.started;
     t.confirmed = b.confirmed;

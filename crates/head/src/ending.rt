@@ -1,5 +1,5 @@
 // How a round ends for a head.
-use deeds::is_number;
+use changes::is_number;
 use protocol::HeadRecord;
 use protocol::OptNumber;
 use protocol::OptReading;

@@ -9,11 +9,11 @@ use Rattle.protocol.specs.Base.{allBelow}
 use Rattle.protocol.specs.Words.{isTime, headsFit}
 use Rattle.protocol.specs.Record.{isNumber, keptOf, phaseInRange, marksInRange, recordInRange}
 use Rattle.protocol.proofs.Tests.{absurd-bool, cases, and-both, all-below}
-use Rattle.deeds.specs.declared.Brief.{Brief}
-use Rattle.ranges.specs.Ranges.{keptInRange, marksFit, briefInRange}
+use Rattle.changes.specs.declared.State.{State}
+use Rattle.ranges.specs.Ranges.{keptInRange, marksFit, stateInRange}
 
-abbrev pub briefIn : HeadRecord → Brief
-briefIn r = record { own = r .own; last = r .last; started = r .started; confirmed = r .confirmed; vote = r .vote; adjust = r .adjust; adjustment = r .adjustment }
+abbrev pub stateIn : HeadRecord → State
+stateIn r = record { own = r .own; last = r .last; started = r .started; confirmed = r .confirmed; vote = r .vote; adjust = r .adjust; adjustment = r .adjustment }
 
 abbrev pub keptAt : HeadRecord → ℕ → Bool
 keptAt r p = keptInRange (r .n) p (keptOf r p)
@@ -30,8 +30,8 @@ last-test true true true true true false g h z = refl
 last-test true true true true true true false h z = refl
 last-test true true true true true true true h z = refl
 
-pub in-parts : (r : HeadRecord) → (briefInRange (r .n) (r .f) (briefIn r) && allBelow 16 (keptAt r)) ≡ recordInRange r
-unfolding briefInRange marksFit recordInRange marksInRange
+pub in-parts : (r : HeadRecord) → (stateInRange (r .n) (r .f) (stateIn r) && allBelow 16 (keptAt r)) ≡ recordInRange r
+unfolding stateInRange marksFit recordInRange marksInRange
 in-parts r =
     last-test (headsFit (r .n) (r .f)) (ltb (r .own) (r .n)) (isTime (r .last .0)) (isTime (r .adjustment .0))
     (isNumber (r .adjust .choice) || eqb (r .adjustment .0) 0) (phaseInRange (r .n) (r .vote)) (phaseInRange (r .n) (r .adjust)) (marksInRange r)

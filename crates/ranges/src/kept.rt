@@ -1,5 +1,5 @@
 // What is kept by one sender.
-use deeds::is_number;
+use changes::is_number;
 use protocol::OptNumber;
 use protocol::OptReading;
 use protocol::Sender;

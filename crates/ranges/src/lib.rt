@@ -2,10 +2,10 @@
 mod kept;
 mod small;
 
-use deeds::Brief;
+use changes::State;
 use kept::kept_in_range;
 use protocol::HeadRecord;
-use small::brief_in_range;
+use small::state_in_range;
 ghost use mathlib.Core.Path.{_≡_};
 ghost use Rattle.protocol.specs.Record.{recordInRange};
 
@@ -18,7 +18,7 @@ pub fn record_in_range(r: HeadRecord) -> bool
     let v = r.vote;
     let w = r.adjust;
     let y = r.adjustment;
-    let b = Brief {
+    let b = State {
         own: r.own,
         last,
         started: r.started,
@@ -27,7 +27,7 @@ pub fn record_in_range(r: HeadRecord) -> bool
         adjust: w,
         adjustment: y,
     };
-    if brief_in_range(n, r.f, b) {
+    if state_in_range(n, r.f, b) {
         let mut i: usize = 0;
         while i < 16 {
             let e = r.senders[i];

@@ -1,7 +1,7 @@
 // A record less what it keeps by sender.
 use crate::kept::is_time;
-use deeds::Brief;
-use deeds::is_number;
+use changes::State;
+use changes::is_number;
 use protocol::OptNumber;
 use protocol::Phase;
 use protocol::Reading;
@@ -11,7 +11,7 @@ ghost use lib.Dec.{eqb};
 ghost use Rattle.protocol.specs.Base.{_⇒_};
 ghost use Rattle.protocol.specs.Words.{headsFit};
 ghost use Rattle.protocol.specs.Record.{isNumber, sentInRange, phaseInRange};
-ghost use Rattle.ranges.specs.Ranges.{marksFit, briefInRange};
+ghost use Rattle.ranges.specs.Ranges.{marksFit, stateInRange};
 
 fn heads_fit(n: u8, f: u8) -> bool
     ensures { λ b. ⌜ b ≡ headsFit n f ⌝ }
@@ -55,7 +55,7 @@ fn is_begun(p: Phase) -> bool
     p.turn || p.closed
 }
 
-fn marks_fit(b: Brief) -> bool
+fn marks_fit(b: State) -> bool
     ensures { λ t. ⌜ t ≡ marksFit b ⌝ }
 {
     let w = b.adjust;
@@ -63,8 +63,8 @@ fn marks_fit(b: Brief) -> bool
         && (implies(b.vote.turn, b.confirmed) && implies(is_begun(w), b.vote.closed))
 }
 
-pub fn brief_in_range(n: u8, f: u8, b: Brief) -> bool
-    ensures { λ t. ⌜ t ≡ briefInRange n f b ⌝ }
+pub fn state_in_range(n: u8, f: u8, b: State) -> bool
+    ensures { λ t. ⌜ t ≡ stateInRange n f b ⌝ }
 {
     let v = b.vote;
     let w = b.adjust;

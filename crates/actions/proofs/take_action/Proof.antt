@@ -1,8 +1,8 @@
-use Rattle.actions.proofs.Built.{counts-fit, said-when, whole}
+use Rattle.actions.proofs.Built.{counts-fit, sending-when, whole}
 use Rattle.actions.specs.Actions.{admissionOf}
-use Rattle.deeds.specs.Deeds.{withMarks, deedOf}
-use Rattle.deeds.specs.declared.Deed.{Deed}
-use Rattle.deeds.specs.declared.Brief.{Brief}
+use Rattle.changes.specs.Changes.{withMarks, changeOf}
+use Rattle.changes.specs.declared.Change.{Change}
+use Rattle.changes.specs.declared.State.{State}
 use Rattle.protocol.specs.Record.{noSender}
 use lib.ListN.{getD}
 use mathlib.Core.Logic.{⊎-elim, inl, inr}
@@ -44,9 +44,9 @@ count-first-requires c κs =
     let r = args .r in
     let m = c .before .before .before .before .before .before .admit-action in
     let e = getD (r .senders) (c .before .before .before .before .seat .result) noSender in
-    let same : c .before .before .act .result ≡ deedOf (m .result .brief) e (m .result .action) = c .before .before .act .ensures in
+    let same : c .before .before .act .result ≡ changeOf (m .result .state) e (m .result .action) = c .before .before .act .ensures in
     counts-fit (r .n) (withMarks (c .before .before .before .before .before .before .before .unstarted .result) (r .started) (r .confirmed)) (args .x) (args .sent) (args .a) e
-    (rw (m .ensures) at (sym (ap (λ (d : Deed). d .counts) same) ∙ c .if1 .taken))
+    (rw (m .ensures) at (sym (ap (λ (d : Change). d .counts) same) ∙ c .if1 .taken))
 
 voted-for-requires : tie.Need-voted-for-requires
 voted-for-requires c κs = search needs
@@ -100,7 +100,7 @@ returns c =
     let admitted = c .before .before .before .before .before .before .before .before .before .before .before .before .before .before .before .before .before .before .admit-action in
     let sender = c .before .before .before .before .before .before .before .before .before .before .before .before .before .before .before .before .before .sender-of in
     let seat = c .before .before .before .before .before .before .before .before .before .before .before .before .before .before .before .before .seat in
-    let deed = c .before .before .before .before .before .before .before .before .before .before .before .before .before .before .act in
+    let change = c .before .before .before .before .before .before .before .before .before .before .before .before .before .before .act in
     let join = c .before .before .before .before .before .before .before .before .before .before .before .before .if1 in
     let voted = c .before .before .before .before .before .before .before .before .before .before .before .voted-for in
     let seat2 = c .before .before .before .before .before .before .before .before .before .before .seat2 in
@@ -110,11 +110,11 @@ returns c =
     let vote = c .before .before .before .vote-after in
     let adjust = c .before .before .adjust-after in
     let adjustment = c .before .adjustment-after in
-    whole r (args .x) (args .sent) (args .a) (admitted .result) (sender .result) (seat .result) (deed .result) (join .s) (voted .result) (seat2 .result)
+    whole r (args .x) (args .sent) (args .a) (admitted .result) (sender .result) (seat .result) (change .result) (join .s) (voted .result) (seat2 .result)
     (seat3 .result) (own .result) (last .result) (vote .result) (adjust .result) (adjustment .result) (c .frame-of .result)
-    (admitted .ensures ∙ ap (λ (b : Brief). admissionOf (r .n) (withMarks b (r .started) (r .confirmed)) (args .x) (args .sent) (args .a)) (c .before .before .before .before .before .before .before .before .before .before .before .before .before .before .before .before .before .before .before .unstarted .ensures))
-    (sender .ensures) (seat .ensures) (deed .ensures)
-    (said-when r (seat .result) (deed .result) (join .s)
+    (admitted .ensures ∙ ap (λ (b : State). admissionOf (r .n) (withMarks b (r .started) (r .confirmed)) (args .x) (args .sent) (args .a)) (c .before .before .before .before .before .before .before .before .before .before .before .before .before .before .before .before .before .before .before .unstarted .ensures))
+    (sender .ensures) (seat .ensures) (change .ensures)
+    (sending-when r (seat .result) (change .result) (join .s)
     (⊎-elim (λ w. inl (w .0 .taken, w .2 ∙ w .1 .ensures)) (λ w. inr (w .0 .left, w .1)) (join .came)))
     (voted .ensures) (seat2 .ensures) (seat3 .ensures) (own .ensures) (last .ensures) (vote .ensures) (adjust .ensures) (adjustment .ensures) (c .frame-of .ensures)
 

@@ -16,8 +16,8 @@ Inv-loop r n i₀ i =
 abbrev μ-loop : tie.MeasureT-loop
 μ-loop r n i₀ i = 16 - i
 
-brief-in-range-requires : tie.Need-brief-in-range-requires Inv-loop μ-loop
-brief-in-range-requires c κs = search needs
+state-in-range-requires : tie.Need-state-in-range-requires Inv-loop μ-loop
+state-in-range-requires c κs = search needs
 
 loop-holds : tie.Need-loop-holds Inv-loop μ-loop
 loop-holds c = search needs
@@ -49,19 +49,19 @@ returns c =
     let r = c .before .before .before .before .before .before .before .before .before .before .before .args .t1 in
     let i = c .before .before .before .before .loop .i in
     let bad : keptAt r i ≡ false = rw (c .before .before .before .before .loop .inv .1) at (sym (c .before .kept-in-range .ensures) ∙ c .if2 .left) in
-    sym (ap₂ _&&_ (sym (c .before .before .before .before .before .before .brief-in-range .ensures) ∙ c .before .before .before .before .before .if1 .taken) (not-kept r i (c .before .before .before .loop-test .taken) bad)) ∙ in-parts r
+    sym (ap₂ _&&_ (sym (c .before .before .before .before .before .before .state-in-range .ensures) ∙ c .before .before .before .before .before .if1 .taken) (not-kept r i (c .before .before .before .loop-test .taken) bad)) ∙ in-parts r
 
 returns-2 : tie.Need-returns-2 Inv-loop μ-loop
 returns-2 c =
     let r = c .before .before .before .before .before .before .before .before .args .t1 in
     let end : c .before .loop .i ≡ 16 = omega arith in
     let all : allBelow 16 (keptAt r) ≡ true = ap (λ (k : ℕ). allBelow k (keptAt r)) (sym end) ∙ c .before .loop .inv .2 in
-    sym (and-both (sym (c .before .before .before .brief-in-range .ensures) ∙ c .before .before .if1 .taken) all) ∙ in-parts r
+    sym (and-both (sym (c .before .before .before .state-in-range .ensures) ∙ c .before .before .if1 .taken) all) ∙ in-parts r
 
 returns-3 : tie.Need-returns-3 Inv-loop μ-loop
 returns-3 c =
     let r = c .before .before .before .before .before .before .args .t1 in
-    ap (λ (t : Bool). t && allBelow 16 (keptAt r)) (sym (c .if1 .left) ∙ c .before .brief-in-range .ensures) ∙ in-parts r
+    ap (λ (t : Bool). t && allBelow 16 (keptAt r)) (sym (c .if1 .left) ∙ c .before .state-in-range .ensures) ∙ in-parts r
 
 pub record-in-range-spec : {M : Type 1} → statement M
 record-in-range-spec =
@@ -69,7 +69,7 @@ record-in-range-spec =
     (tie.spec
     Inv-loop
     μ-loop
-    brief-in-range-requires
+    state-in-range-requires
     loop-holds
     mul-e
     element-copy-out-e

@@ -1,0 +1,51 @@
+use mathlib.Core.Path.{_≡_, sym, _∙_}
+use borrow.Author.Tests.{ne-eqb}
+use Rattle.protocol.specs.Record.{correction, outcome}
+use native.Mathlib.Omega.{arith}
+use borrow.Author.Needs.{needs}
+use Rattle.board.proofs.numbers.correction_of.Statement.{statement}
+use Rattle.board.proofs.numbers.correction_of.Tie as tie
+use Rattle.board.proofs.numbers.correction_of.Reads as reads
+use Rattle.board.proofs.numbers.correction_of.Lts as lts
+use Rattle.board.proofs.numbers.difference.Reads as difference-reads
+use Rattle.board.proofs.numbers.reading_or_0.Reads as reading-or-0-reads
+use Rattle.head.proofs.chosen_start.Reads as chosen-start-reads
+use Rattle.head.proofs.outcome.Reads as outcome-reads
+
+-- src/numbers.rt:175:8
+outcome-requires : tie.Need-outcome-requires
+outcome-requires c κs = search needs
+
+-- src/numbers.rt:176:34
+chosen-start-requires : tie.Need-chosen-start-requires
+chosen-start-requires c κs = search needs
+
+-- src/numbers.rt:176:13
+reading-or-0-requires : tie.Need-reading-or-0-requires
+reading-or-0-requires c κs = search needs
+
+-- src/numbers.rt:177:9
+difference-requires : tie.Need-difference-requires
+difference-requires c κs = search needs
+
+-- src/numbers.rt:172:1
+returns : tie.Need-returns
+unfolding correction
+returns c =
+    let two = sym (c .before .before .before .before .outcome .ensures) ∙ c .before .before .before .if1 .taken in
+    _∙_ {b = c .difference .result} (search needs) (simp (two, c .difference .ensures, c .before .reading-or-0 .ensures, c .before .before .chosen-start .ensures))
+
+-- src/numbers.rt:172:1
+returns-2 : tie.Need-returns-2
+returns-2 c = simp (ne-eqb (outcome _) 2 (λ two. c .if1 .left (c .before .outcome .ensures ∙ two)))
+
+pub correction-of-spec : {M : Type 1} → statement M
+correction-of-spec =
+    tie.close
+    (tie.spec
+    outcome-requires
+    chosen-start-requires
+    reading-or-0-requires
+    difference-requires
+    returns
+    returns-2)

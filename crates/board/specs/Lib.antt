@@ -1,0 +1,3 @@
+-- What a board is asked and answers, and the same in numbers.
+pub mod Board
+pub mod Numbers

@@ -1,0 +1,135 @@
+// A board keeps one head's record and changes it in place: its step and a fresh record. `exports` has the same for C.
+mod exports;
+mod numbers;
+
+use head::step;
+use protocol::Cause;
+use protocol::Frame;
+use protocol::HeadRecord;
+use protocol::Input;
+use protocol::OptNumber;
+use protocol::OptReading;
+use protocol::Phase;
+use protocol::Reading;
+use protocol::Sender;
+use protocol::Stepped;
+use protocol::Verdict;
+ghost use mathlib.Core.Path.{_≡_};
+ghost use Rattle.protocol.specs.Words.{headsFit};
+ghost use Rattle.protocol.specs.Step.{step};
+ghost use Rattle.board.specs.Board.{answerOf, freshAt, seatVerdict, seated};
+
+// What a board answers: whether the action is taken, and the frame to send.
+pub struct Answer {
+    pub verdict: Verdict,
+    pub frame: Frame,
+}
+
+// Whom a board is to be: head own of n, of which at most f are faulty.
+pub struct Seat {
+    pub n: u8,
+    pub f: u8,
+    pub own: u8,
+}
+
+fn after_of(s: Stepped) -> HeadRecord
+    ensures { λ r. ⌜ r ≡ s .after ⌝ }
+{
+    s.after
+}
+
+fn answer_of(s: Stepped) -> Answer
+    ensures { λ a. ⌜ a ≡ answerOf s ⌝ }
+{
+    let verdict = s.verdict;
+    let frame = s.frame;
+    Answer { verdict, frame }
+}
+
+// The board's step: the record becomes the one after the action. A refused action leaves it as it was.
+pub fn board_step(r: &mut HeadRecord, i: Input) -> Answer
+    ensures { λ a. ⌜ (now (r .exit) ≡ step (now (r .entry)) i .after) × (a ≡ answerOf (step (now (r .entry)) i)) ⌝ }
+{
+    let s = step(*r, i);
+    *r = after_of(s);
+    answer_of(s)
+}
+
+fn heads_fit(n: u8, f: u8) -> bool
+    ensures { λ b. ⌜ b ≡ headsFit n f ⌝ }
+{
+    let two = 2 * (f as u32) + 1;
+    2 <= n && (n <= 16 && two <= n as u32)
+}
+
+fn fresh_record(p: Seat) -> HeadRecord
+    ensures { λ r. ⌜ r ≡ freshAt p ⌝ }
+{
+    let none = Sender {
+        start: OptReading::NoReading,
+        vote: OptReading::NoReading,
+        voted: OptNumber::NoNumber,
+        adjusted: OptNumber::NoNumber,
+    };
+    let phase = Phase {
+        turn: false,
+        closed: false,
+        choice: OptNumber::NoNumber,
+        sent: 0,
+    };
+    let senders = [none; 16];
+    HeadRecord {
+        n: p.n,
+        f: p.f,
+        own: p.own,
+        last: Reading(0),
+        started: false,
+        confirmed: false,
+        vote: phase,
+        adjust: phase,
+        adjustment: Reading(0),
+        senders,
+    }
+}
+
+// Cause 3 if n or f is against the first word's rules, 6 if own is not below n.
+fn seat_verdict(p: Seat) -> Verdict
+    ensures { λ v. ⌜ v ≡ seatVerdict p ⌝ }
+{
+    if heads_fit(p.n, p.f) {
+        if p.own < p.n {
+            Verdict::Accepted
+        } else {
+            Verdict::Refused(Cause::BadEntry)
+        }
+    } else {
+        Verdict::Refused(Cause::BadFirstWord)
+    }
+}
+
+fn begin(r: HeadRecord, p: Seat) -> Stepped
+    ensures { λ s. ⌜ s ≡ seated r p ⌝ }
+{
+    let v = seat_verdict(p);
+    match v {
+        Verdict::Accepted => Stepped {
+            verdict: Verdict::Accepted,
+            after: fresh_record(p),
+            frame: Frame::NoFrame,
+        },
+        Verdict::Refused(c) => Stepped {
+            verdict: Verdict::Refused(c),
+            after: r,
+            frame: Frame::NoFrame,
+        },
+    }
+}
+
+// A fresh record in lent memory. A seat that is refused leaves the memory as it was.
+pub fn fresh_board(r: &mut HeadRecord, p: Seat) -> Answer
+    ensures { λ a. ⌜ (now (r .exit) ≡ seated (now (r .entry)) p .after) × (a ≡ answerOf (seated (now (r .entry)) p)) ⌝ }
+{
+    let s = begin(*r, p);
+    *r = after_of(s);
+    answer_of(s)
+}

@@ -1,0 +1,2 @@
+-- An action's effect in small parts.
+pub mod Changes

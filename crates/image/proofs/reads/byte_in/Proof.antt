@@ -1,0 +1,22 @@
+use borrow.Author.Tests.{le-ltb, lt-ltb}
+use native.Mathlib.Omega.{arith}
+use borrow.Author.Needs.{needs}
+use Rattle.image.proofs.reads.byte_in.Statement.{statement}
+use Rattle.image.proofs.reads.byte_in.Tie as tie
+use Rattle.image.proofs.reads.byte_in.Reads as reads
+use Rattle.image.proofs.reads.byte_in.Lts as lts
+
+-- src/reads.rt:14:9
+cast-result : tie.Need-cast-result
+cast-result c = search needs
+
+-- src/reads.rt:10:1
+returns : tie.Need-returns
+returns c = simp (lt-ltb _ _ (c .if1 .taken))
+
+-- src/reads.rt:10:1
+returns-2 : tie.Need-returns-2
+returns-2 c = simp (le-ltb _ _ (c .if1 .left))
+
+pub byte-in-spec : {M : Type 1} → statement M
+byte-in-spec = tie.close (tie.spec cast-result returns returns-2)

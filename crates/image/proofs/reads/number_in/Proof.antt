@@ -1,0 +1,27 @@
+use borrow.Author.Tests.{eq-eqb, ne-eqb}
+use native.Mathlib.Omega.{arith}
+use borrow.Author.Needs.{needs}
+use Rattle.image.proofs.reads.number_in.Statement.{statement}
+use Rattle.image.proofs.reads.number_in.Tie as tie
+use Rattle.image.proofs.reads.number_in.Reads as reads
+use Rattle.image.proofs.reads.number_in.Lts as lts
+use Rattle.image.proofs.reads.byte_in.Reads as byte-in-reads
+
+-- src/reads.rt:26:39
+sub-byte-in : tie.Need-sub-byte-in
+sub-byte-in c = search needs
+
+-- src/reads.rt:26:31
+byte-in-requires : tie.Need-byte-in-requires
+byte-in-requires c κs = search needs
+
+-- src/reads.rt:20:1
+returns : tie.Need-returns
+returns c = simp (eq-eqb _ _ (c .if1 .taken))
+
+-- src/reads.rt:20:1
+returns-2 : tie.Need-returns-2
+returns-2 c = simp (c .byte-in .ensures, ne-eqb _ _ (c .before .if1 .left))
+
+pub number-in-spec : {M : Type 1} → statement M
+number-in-spec = tie.close (tie.spec sub-byte-in byte-in-requires returns returns-2)

@@ -1,0 +1,58 @@
+use native.Mathlib.Omega.{arith}
+use borrow.Author.Needs.{needs}
+use Rattle.image.proofs.reads.sender_in.Statement.{statement}
+use Rattle.image.proofs.reads.sender_in.Tie as tie
+use Rattle.image.proofs.reads.sender_in.Reads as reads
+use Rattle.image.proofs.reads.sender_in.Lts as lts
+use Rattle.image.proofs.reads.number_in.Reads as number-in-reads
+use Rattle.image.proofs.reads.reading_in.Reads as reading-in-reads
+
+-- src/reads.rt:50:28
+array-read-reading-in : tie.Need-array-read-reading-in
+array-read-reading-in c = search needs
+
+-- src/reads.rt:50:9
+reading-in-requires : tie.Need-reading-in-requires
+reading-in-requires c κs = search needs
+
+-- src/reads.rt:51:27
+array-read-reading-in-2 : tie.Need-array-read-reading-in-2
+array-read-reading-in-2 c = search needs
+
+-- src/reads.rt:51:9
+reading-in-requires-2 : tie.Need-reading-in-requires-2
+reading-in-requires-2 c κs = search needs
+
+-- src/reads.rt:52:27
+array-read-number-in : tie.Need-array-read-number-in
+array-read-number-in c = search needs
+
+-- src/reads.rt:52:9
+number-in-requires : tie.Need-number-in-requires
+number-in-requires c κs = search needs
+
+-- src/reads.rt:53:30
+array-read-number-in-2 : tie.Need-array-read-number-in-2
+array-read-number-in-2 c = search needs
+
+-- src/reads.rt:53:9
+number-in-requires-2 : tie.Need-number-in-requires-2
+number-in-requires-2 c κs = search needs
+
+-- src/reads.rt:47:1
+returns : tie.Need-returns
+returns c = simp (c .number-in2 .ensures, c .before .number-in .ensures, c .before .before .reading-in2 .ensures, c .before .before .before .reading-in .ensures)
+
+pub sender-in-spec : {M : Type 1} → statement M
+sender-in-spec =
+    tie.close
+    (tie.spec
+    array-read-reading-in
+    reading-in-requires
+    array-read-reading-in-2
+    reading-in-requires-2
+    array-read-number-in
+    number-in-requires
+    array-read-number-in-2
+    number-in-requires-2
+    returns)

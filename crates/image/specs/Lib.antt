@@ -1,0 +1,2 @@
+-- A head's record as rows of numbers.
+pub mod Rows

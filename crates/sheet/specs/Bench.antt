@@ -1,0 +1,75 @@
+-- What a run keeps of its history: the record of each head, and each frame sent with the entry that sent it, in arrays by
+-- head and serial.
+use mathlib.Core.Bool.{Bool, cond, _&&_}
+use mathlib.Core.List.{List, [], _∷_}
+use Prim.Native.Nat.{ℕ, zero, suc, _+_, _-_, _*_, _/_, _%_, min}
+use lib.Dec.{ltb, eqb}
+use lib.ListN.{length}
+use Rattle.protocol.specs.declared.HeadRecord.{HeadRecord}
+use Rattle.protocol.specs.declared.Setting.{Setting}
+use Rattle.protocol.specs.declared.Frame.{Frame}
+use Rattle.protocol.specs.declared.Frame.the-variants.{NoFrame, Start, Vote, Adjust}
+use Rattle.protocol.specs.declared.Verdict.the-variants.{Accepted, Refused}
+use Rattle.protocol.specs.Words.{settingAt, entryCount}
+use Rattle.protocol.specs.Causes.{sheetVerdict}
+use Rattle.protocol.specs.Run.{History, recordOf, isDeliveredBy, frameSent, isFrame, Run, stopped, ran, runOf, afterVerdict}
+use Rattle.sheet.specs.declared.Sent.{Sent}
+use Rattle.sheet.specs.declared.Bench.{Bench}
+use Rattle.sheet.specs.declared.Ran.{Ran}
+
+-- the values of f at the k numbers from i on
+abbrev pub table : {A : Type 0} → (ℕ → A) → ℕ → ℕ → List A
+table f i zero = []
+table f i (suc k) = f i ∷ table f (suc i) k
+
+-- votes stand at head × 16 + serial, adjusts 256 further: the action that delivers, the head and the serial of a place
+abbrev pub actionAt : ℕ → ℕ
+actionAt j = cond (ltb j 256) 5 8
+
+abbrev pub headAt : ℕ → ℕ
+headAt j = j % 256 / 16
+
+abbrev pub serialAt : ℕ → ℕ
+serialAt j = j % 16
+
+-- the place of the vote (action 5) or adjust (action 8) of head p under serial k
+abbrev pub placeFor : ℕ → ℕ → ℕ → ℕ
+placeFor a p k = cond (eqb a 8) 256 0 + p % 16 * 16 + k % 16
+
+-- the place of a frame that head q sends
+abbrev pub placeOfFrame : ℕ → Frame → ℕ
+placeOfFrame q NoFrame = placeFor 0 q 0
+placeOfFrame q Start = placeFor 0 q 0
+placeOfFrame q (Vote k c x) = placeFor 5 q k
+placeOfFrame q (Adjust k c x) = placeFor 8 q k
+
+-- what is kept at that place: the first vote or adjust that was sent under it
+abbrev pub keptFrame : Sent → Frame → ℕ → Sent
+keptFrame old NoFrame i = old
+keptFrame old Start i = old
+keptFrame old (Vote k c x) i = cond (isFrame (old .frame)) old (record { frame = Vote k c x; at = i })
+keptFrame old (Adjust k c x) i = cond (isFrame (old .frame)) old (record { frame = Adjust k c x; at = i })
+
+-- the index of the entry that sent the frame, 0 where none did
+unfoldable pub sentAt : History → ℕ → ℕ → ℕ → ℕ
+sentAt [] a p k = 0
+sentAt (e ∷ s) a p k =
+    cond (isFrame (frameSent s a p k)) (sentAt s a p k) (cond (eqb (e .entry .head) p && isDeliveredBy a k (e .frame)) (length s) 0)
+
+unfoldable pub sentOf : History → ℕ → Sent
+sentOf s j = record { frame = frameSent s (actionAt j) (headAt j) (serialAt j); at = sentAt s (actionAt j) (headAt j) (serialAt j) }
+
+unfoldable pub benchOf : Setting → History → Bench
+benchOf g s = record { records = table (recordOf g s) 0 16; sent = table (sentOf s) 0 512 }
+
+-- a run's answer; a stopped one has a bench of no heads
+abbrev pub noSetting : Setting
+noSetting = record { n = 0; f = 0; correct = 0; drift = 0; tightness = 0 }
+
+unfoldable pub answerOf : Setting → Run → Ran
+answerOf g (stopped c p) = record { verdict = Refused c; place = p; bench = benchOf noSetting [] }
+answerOf g (ran s) = record { verdict = Accepted; place = 0; bench = benchOf g s }
+
+-- the run of a sheet's first k entries, or of all of them where it has fewer
+unfoldable pub runFirst : List ℕ → ℕ → Run
+runFirst ws k = afterVerdict (sheetVerdict ws) (runOf ws (min k (entryCount ws)))
