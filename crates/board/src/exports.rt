@@ -1,6 +1,5 @@
 // What a board written in C calls; include/daisarnica.h declares it. A head's record is twenty rows of four numbers in
 // memory that the caller lends, an action and a frame are arrays of numbers, and each cause is its number, 0 for none.
-use crate::fresh_record;
 use crate::numbers::correction_of;
 use crate::numbers::frame_numbers;
 use crate::numbers::input_in;
@@ -11,10 +10,10 @@ use crate::numbers::rows_verdict;
 use crate::numbers::seat_in;
 use crate::numbers::verdict_number;
 use crate::seat_verdict;
+use fresh::fresh_record;
 use head::counter_reading;
 use image::record_in;
 use image::rows_of;
-use protocol::Cause;
 use protocol::Counted;
 use protocol::Verdict;
 ghost use mathlib.Core.Path.{_≡_};
@@ -32,7 +31,7 @@ pub extern "C" fn daisarnica_fresh(head: &mut [[u32; 4]; 20], n: u32, f: u32, ow
     let v = seat_verdict(p);
     match v {
         Verdict::Accepted => {
-            *head = rows_of(fresh_record(p));
+            *head = rows_of(fresh_record(p.n, p.f, p.own));
             0
         }
         Verdict::Refused(_) => verdict_number(v),

@@ -2,22 +2,18 @@
 mod exports;
 mod numbers;
 
+use fresh::fresh_record;
 use head::step;
 use protocol::Cause;
 use protocol::Frame;
 use protocol::HeadRecord;
 use protocol::Input;
-use protocol::OptNumber;
-use protocol::OptReading;
-use protocol::Phase;
-use protocol::Reading;
-use protocol::Sender;
 use protocol::Stepped;
 use protocol::Verdict;
 ghost use mathlib.Core.Path.{_≡_};
 ghost use Rattle.protocol.specs.Words.{headsFit};
 ghost use Rattle.protocol.specs.Step.{step};
-ghost use Rattle.board.specs.Board.{answerOf, freshAt, seatVerdict, seated};
+ghost use Rattle.board.specs.Board.{answerOf, seatVerdict, seated};
 
 // What a board answers: whether the action is taken, and the frame to send.
 pub struct Answer {
@@ -62,36 +58,6 @@ fn heads_fit(n: u8, f: u8) -> bool
     2 <= n && (n <= 16 && two <= n as u32)
 }
 
-fn fresh_record(p: Seat) -> HeadRecord
-    ensures { λ r. ⌜ r ≡ freshAt p ⌝ }
-{
-    let none = Sender {
-        start: OptReading::NoReading,
-        vote: OptReading::NoReading,
-        voted: OptNumber::NoNumber,
-        adjusted: OptNumber::NoNumber,
-    };
-    let phase = Phase {
-        turn: false,
-        closed: false,
-        choice: OptNumber::NoNumber,
-        sent: 0,
-    };
-    let senders = [none; 16];
-    HeadRecord {
-        n: p.n,
-        f: p.f,
-        own: p.own,
-        last: Reading(0),
-        started: false,
-        confirmed: false,
-        vote: phase,
-        adjust: phase,
-        adjustment: Reading(0),
-        senders,
-    }
-}
-
 // Cause 3 if n or f is against the first word's rules, 6 if own is not below n.
 fn seat_verdict(p: Seat) -> Verdict
     ensures { λ v. ⌜ v ≡ seatVerdict p ⌝ }
@@ -114,7 +80,7 @@ fn begin(r: HeadRecord, p: Seat) -> Stepped
     match v {
         Verdict::Accepted => Stepped {
             verdict: Verdict::Accepted,
-            after: fresh_record(p),
+            after: fresh_record(p.n, p.f, p.own),
             frame: Frame::NoFrame,
         },
         Verdict::Refused(c) => Stepped {

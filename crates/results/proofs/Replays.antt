@@ -3,9 +3,9 @@
 use mathlib.Core.Path.{_≡_, refl, sym, _∙_, ap}
 use mathlib.Core.Bool.{true}
 use mathlib.Core.List.{List, [], _++_}
-use Prim.Native.Nat.{ℕ, _+_, _*_, _/_, _^_, _≤_, _<_, min}
+use Prim.Native.Nat.{ℕ, _*_, _^_, _≤_, _<_, min}
 use native.Mathlib.Omega.{arith}
-use lib.ListN.{length, getD, drop}
+use lib.ListN.{length, drop}
 use borrow.Author.Tests.{lt-ltb, le-ltb}
 use Rattle.protocol.specs.declared.HeadRecord.{HeadRecord}
 use Rattle.protocol.specs.declared.OptNumber.{OptNumber}
@@ -21,7 +21,7 @@ use Rattle.protocol.specs.Words.{headsFit, settingAt, entryCount}
 use Rattle.protocol.specs.Record.{numberOr0, readingOr0, startOfChoice, chosenStart}
 use Rattle.protocol.specs.Causes.{sheetVerdict}
 use Rattle.protocol.specs.Run.{History, recordOf, Run, stopped, ran, runOf}
-use Rattle.protocol.specs.Results.{wordsFrom, resultWords, Replay, fill, replay}
+use Rattle.protocol.specs.Results.{wordsFrom, resultWords, fill, replay}
 use Rattle.protocol.proofs.Effects.{votes, adjusts}
 use Rattle.protocol.proofs.Valid.{Valid, valid-run, heads-fit}
 use Rattle.protocol.proofs.Ranges.{InRange, SentInRange, run-in-range}

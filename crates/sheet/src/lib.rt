@@ -14,14 +14,10 @@ ghost use Rattle.sheet.specs.Bench.{table, placeFor, placeOfFrame, keptF
 use entries::delivered_frame;
 use entries::is_frame;
 use entries::step_with;
+use fresh::fresh_record;
 use protocol::Cause;
 use protocol::Frame;
 use protocol::HeadRecord;
-use protocol::OptNumber;
-use protocol::OptReading;
-use protocol::Phase;
-use protocol::Reading;
-use protocol::Sender;
 use protocol::Setting;
 use protocol::Verdict;
 
@@ -65,36 +61,6 @@ pub fn sheet_verdict(sheet: &[u32]) -> Verdict
         return Verdict::Refused(Cause::BadFirstWord);
     }
     Verdict::Refused(Cause::BadLength)
-}
-
-// "Before the first entry every head's record is fresh"
-pub fn fresh_record(n: u8, f: u8, own: u8) -> HeadRecord
-    ensures { λ r. ⌜ r ≡ fresh n f own ⌝ }
-{
-    let phase = Phase {
-        turn: false,
-        closed: false,
-        choice: OptNumber::NoNumber,
-        sent: 0,
-    };
-    let sender = Sender {
-        start: OptReading::NoReading,
-        vote: OptReading::NoReading,
-        voted: OptNumber::NoNumber,
-        adjusted: OptNumber::NoNumber,
-    };
-    HeadRecord {
-        n,
-        f,
-        own,
-        last: Reading(0),
-        started: false,
-        confirmed: false,
-        vote: phase,
-        adjust: phase,
-        adjustment: Reading(0),
-        senders: [sender; 16],
-    }
 }
 
 fn fresh_records(n: u8, f: u8) -> [HeadRecord; 16]

@@ -1,12 +1,7 @@
 use Rattle.board.specs.Board.{seated}
-use native.Mathlib.Omega.{arith}
 use borrow.Author.Needs.{needs}
 use Rattle.board.proofs.begin.Statement.{statement}
 use Rattle.board.proofs.begin.Tie as tie
-use Rattle.board.proofs.begin.Reads as reads
-use Rattle.board.proofs.begin.Lts as lts
-use Rattle.board.proofs.fresh_record.Reads as fresh-record-reads
-use Rattle.board.proofs.seat_verdict.Reads as seat-verdict-reads
 
 -- src/lib.rt:99:9
 seat-verdict-requires : tie.Need-seat-verdict-requires

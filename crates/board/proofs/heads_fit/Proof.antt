@@ -1,10 +1,7 @@
 use borrow.Author.Tests.{le-leb, lt-leb}
-use native.Mathlib.Omega.{arith}
 use borrow.Author.Needs.{needs}
 use Rattle.board.proofs.heads_fit.Statement.{statement}
 use Rattle.board.proofs.heads_fit.Tie as tie
-use Rattle.board.proofs.heads_fit.Reads as reads
-use Rattle.board.proofs.heads_fit.Lts as lts
 
 -- src/lib.rt:50:15
 mul-two : tie.Need-mul-two

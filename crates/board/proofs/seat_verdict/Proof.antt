@@ -1,12 +1,8 @@
 use Rattle.board.specs.Board.{seatVerdict}
 use borrow.Author.Tests.{le-ltb, lt-ltb}
-use native.Mathlib.Omega.{arith}
 use borrow.Author.Needs.{needs}
 use Rattle.board.proofs.seat_verdict.Statement.{statement}
 use Rattle.board.proofs.seat_verdict.Tie as tie
-use Rattle.board.proofs.seat_verdict.Reads as reads
-use Rattle.board.proofs.seat_verdict.Lts as lts
-use Rattle.board.proofs.heads_fit.Reads as heads-fit-reads
 
 -- src/lib.rt:85:8
 heads-fit-requires : tie.Need-heads-fit-requires

@@ -1,82 +1,59 @@
+-- `replay` ends as document 01's order of causes says: turned back, stopped, or with the result words.
 use denote.Ref.{now}
 use Rattle.sheet.proofs.Sheets.{passed}
 use Rattle.results.proofs.Replays.{turned-back, short-buffer, heads-few, stopped-run, all-writable, filled-run}
-use native.Mathlib.Omega.{arith}
 use borrow.Author.Needs.{needs}
 use Rattle.results.proofs.replay.Statement.{statement}
 use Rattle.results.proofs.replay.Tie as tie
-use Rattle.results.proofs.replay.Reads as reads
-use Rattle.results.proofs.replay.Lts as lts
-use Rattle.results.proofs.write_words.Reads as write-words-reads
-use Rattle.sheet.proofs.run.Reads as run-reads
-use Rattle.sheet.proofs.sheet_verdict.Reads as sheet-verdict-reads
-use Rattle.words.proofs.setting_of.Reads as setting-of-reads
 
--- src/lib.rt:100:9
 sheet-verdict-requires : tie.Need-sheet-verdict-requires
 sheet-verdict-requires c κs = search needs
 
--- src/lib.rt:102:26
 enum-known-v : tie.Need-enum-known-v
 enum-known-v c = search needs
 
--- src/lib.rt:104:39
 enum-told : tie.Need-enum-told
 enum-told c = search needs
 
--- src/lib.rt:104:39
 shared-slice-read-setting-of : tie.Need-shared-slice-read-setting-of
 shared-slice-read-setting-of c = let p = passed _ _ (c .before .before .before .sheet-verdict .ensures) (c .before .enum-told .given .1) in search needs
 
--- src/lib.rt:104:49
 shared-slice-read-setting-of-2 : tie.Need-shared-slice-read-setting-of-2
 shared-slice-read-setting-of-2 c = let p = passed _ _ (c .before .before .before .before .sheet-verdict .ensures) (c .before .before .enum-told .given .1) in search needs
 
--- src/lib.rt:104:17
 setting-of-requires : tie.Need-setting-of-requires
 setting-of-requires c κs = search needs
 
--- src/lib.rt:105:32
 cast-if1 : tie.Need-cast-if1
 cast-if1 c = search needs
 
--- src/lib.rt:105:28
 mul-if1 : tie.Need-mul-if1
 mul-if1 c = search needs
 
--- src/lib.rt:106:17
 returns : tie.Need-returns
 returns c = short-buffer _ _ _ (c .before .before .before .before .before .before .before .sheet-verdict .ensures) (c .before .before .before .before .before .enum-told .given .1) _ (c .before .before .setting-of .ensures) (c .if1 .taken)
 
--- src/lib.rt:108:17
 run-requires : tie.Need-run-requires
 run-requires c κs = search needs
 
--- src/lib.rt:111:34
 enum-known-w : tie.Need-enum-known-w
 enum-known-w c = search needs
 
--- src/lib.rt:113:25
 enum-told-2 : tie.Need-enum-told-2
 enum-told-2 c = search needs
 
--- src/lib.rt:115:21
 write-words-requires : tie.Need-write-words-requires
 write-words-requires c κs = (heads-few _ _ (c .before .before .before .before .before .before .before .before .before .before .before .before .before .sheet-verdict .ensures) (c .before .before .before .before .before .before .before .before .before .before .before .enum-told .given .1) _ (c .before .before .before .before .before .before .before .before .setting-of .ensures), c .before .before .before .before .before .before .if1 .left, all-writable _ (now (c .before .before .before .before .before .before .before .before .before .before .before .before .before .before .before .before .args .out)) _ (c .before .before .before .before .before .before .before .before .before .before .before .before .before .sheet-verdict .ensures) (c .before .before .before .before .before .before .before .before .before .before .before .enum-told .given .1) _ (c .before .before .before .before .before .before .before .before .setting-of .ensures) (c .before .before .before .before .before .before .if1 .left) _ (c .before .before .before .before .before .run .ensures) (c .before .before .before .enum-told2 .given .1))
 
--- src/lib.rt:97:1
 returns-2 : tie.Need-returns-2
 returns-2 c = turned-back _ _ _ (c .before .before .before .sheet-verdict .ensures) _ (c .before .v .given .1)
 
--- src/lib.rt:97:1
 returns-3 : tie.Need-returns-3
 returns-3 c = stopped-run _ _ _ (c .before .before .before .before .before .before .before .before .before .before .before .sheet-verdict .ensures) (c .before .before .before .before .before .before .before .before .before .enum-told .given .1) _ (c .before .before .before .before .before .before .setting-of .ensures) (c .before .before .before .before .if1 .left) _ (c .before .before .before .run .ensures) _ (c .before .w .given .1)
 
--- src/lib.rt:97:1
 same-length : tie.Need-same-length
 same-length c = search needs
 
--- src/lib.rt:97:1
 returns-4 : tie.Need-returns-4
 returns-4 c = filled-run _ _ _ (c .before .before .before .before .before .before .before .before .before .before .before .before .before .before .before .before .sheet-verdict .ensures) (c .before .before .before .before .before .before .before .before .before .before .before .before .before .before .enum-told .given .1) _ (c .before .before .before .before .before .before .before .before .before .before .before .setting-of .ensures) (c .before .before .before .before .before .before .before .before .before .if1 .left) _ (c .before .before .before .before .before .before .before .before .run .ensures) _ (c .before .before .before .before .before .before .enum-told2 .given .1) (c .before .before .write-words .ensures)
 

@@ -1,57 +1,40 @@
+-- `words_of` gives a head's three result words.
 use Rattle.results.proofs.Words.{outcome-below, adopted-words, bare-words}
 use native.Mathlib.Omega.{arith}
 use borrow.Author.Needs.{needs}
 use Rattle.results.proofs.words_of.Statement.{statement}
 use Rattle.results.proofs.words_of.Tie as tie
-use Rattle.results.proofs.words_of.Reads as reads
-use Rattle.results.proofs.words_of.Lts as lts
-use Rattle.head.proofs.chosen_start.Reads as chosen-start-reads
-use Rattle.head.proofs.outcome.Reads as outcome-reads
-use Rattle.results.proofs.number_or_0.Reads as number-or-0-reads
-use Rattle.results.proofs.reading_or_0.Reads as reading-or-0-reads
-use Rattle.results.proofs.word_6.Reads as word-6-reads
 
--- src/lib.rt:58:9
 outcome-requires : tie.Need-outcome-requires
 outcome-requires c κs = search needs
 
--- src/lib.rt:64:13
 chosen-start-requires : tie.Need-chosen-start-requires
 chosen-start-requires c κs = search needs
 
--- src/lib.rt:66:35
 number-or-0-requires : tie.Need-number-or-0-requires
 number-or-0-requires c κs = search needs
 
--- src/lib.rt:66:51
 number-or-0-requires-2 : tie.Need-number-or-0-requires-2
 number-or-0-requires-2 c κs = search needs
 
--- src/lib.rt:66:22
 word-6-requires : tie.Need-word-6-requires
 word-6-requires c κs = search needs
 
--- src/lib.rt:67:25
 add-t14 : tie.Need-add-t14
 add-t14 c = search needs
 
--- src/lib.rt:68:29
 reading-or-0-requires : tie.Need-reading-or-0-requires
 reading-or-0-requires c κs = search needs
 
--- src/lib.rt:68:20
 add-t16 : tie.Need-add-t16
 add-t16 c = let start = c .before .before .before .before .before .before .before .before .before .before .pre .1 .start in let is = c .before .before .before .before .before .chosen-start .ensures in let t = rw is at (c .reading-or-0 .ensures) in omega arith
 
--- src/lib.rt:72:22
 word-6-requires-2 : tie.Need-word-6-requires-2
 word-6-requires-2 c κs = let b = outcome-below (c .before .before .args .r) in (omega (arith, c .before .outcome .ensures), c .before .before .pre .0, search needs, search needs)
 
--- src/lib.rt:54:1
 returns : tie.Need-returns
 returns c = adopted-words _ _ _ (c .before .before .before .before .before .before .before .before .before .outcome .ensures) _ _ _ _ (c .before .before .before .before .before .before .before .before .if1 .taken) (c .before .before .before .before .number-or-0 .ensures) (c .before .before .before .number-or-02 .ensures) (rw (c .before .before .before .before .before .chosen-start .ensures) at (c .reading-or-0 .ensures)) (c .before .before .word-6 .ensures)
 
--- src/lib.rt:54:1
 returns-2 : tie.Need-returns-2
 returns-2 c = bare-words _ _ _ (c .before .before .outcome .ensures) _ (c .before .if1 .left) (c .word-62 .ensures)
 

@@ -9,7 +9,7 @@ use Rattle.sheet.proofs.fresh_records.Statement.{statement}
 use Rattle.sheet.proofs.fresh_records.Tie as tie
 use Rattle.sheet.proofs.fresh_records.Reads as reads
 use Rattle.sheet.proofs.fresh_records.Lts as lts
-use Rattle.sheet.proofs.fresh_record.Reads as fresh-record-reads
+use Rattle.fresh.proofs.fresh_record.Reads as fresh-record-reads
 
 abbrev Inv-loop : tie.InvT-loop
 Inv-loop n f l₀ i₀ l i = (i ≤ 16) × (length l ≡ 16) × ((k : ℕ) → k < i → getD l k noRecord ≡ fresh n f k)

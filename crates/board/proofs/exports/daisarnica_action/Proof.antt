@@ -1,17 +1,9 @@
-use mathlib.Core.Path.{_≡_, _∙_, ap}
+use mathlib.Core.Path.{_∙_, ap}
 use Rattle.protocol.specs.declared.Stepped.{Stepped}
 use Rattle.board.specs.Numbers.{frameNumbers, rowsAfter, rowsStep, verdictNumber}
-use native.Mathlib.Omega.{arith}
 use borrow.Author.Needs.{needs}
 use Rattle.board.proofs.exports.daisarnica_action.Statement.{statement}
 use Rattle.board.proofs.exports.daisarnica_action.Tie as tie
-use Rattle.board.proofs.exports.daisarnica_action.Reads as reads
-use Rattle.board.proofs.exports.daisarnica_action.Lts as lts
-use Rattle.board.proofs.numbers.frame_numbers.Reads as frame-numbers-reads
-use Rattle.board.proofs.numbers.input_in.Reads as input-in-reads
-use Rattle.board.proofs.numbers.rows_after.Reads as rows-after-reads
-use Rattle.board.proofs.numbers.rows_step.Reads as rows-step-reads
-use Rattle.board.proofs.numbers.verdict_number.Reads as verdict-number-reads
 
 -- src/exports.rt:41:29
 input-in-requires : tie.Need-input-in-requires

@@ -1,13 +1,7 @@
-use mathlib.Core.Path.{_≡_, sym, _∙_}
-use native.Mathlib.Omega.{arith}
+use mathlib.Core.Path.{sym, _∙_}
 use borrow.Author.Needs.{needs}
 use Rattle.board.proofs.exports.daisarnica_correction.Statement.{statement}
 use Rattle.board.proofs.exports.daisarnica_correction.Tie as tie
-use Rattle.board.proofs.exports.daisarnica_correction.Reads as reads
-use Rattle.board.proofs.exports.daisarnica_correction.Lts as lts
-use Rattle.board.proofs.numbers.correction_of.Reads as correction-of-reads
-use Rattle.board.proofs.numbers.rows_verdict.Reads as rows-verdict-reads
-use Rattle.image.proofs.record_in.Reads as record-in-reads
 
 -- src/exports.rt:75:9
 rows-verdict-requires : tie.Need-rows-verdict-requires

@@ -1,17 +1,9 @@
-use mathlib.Core.Path.{_≡_, sym, _∙_, ap}
+use mathlib.Core.Path.{sym, _∙_, ap}
 use Rattle.board.specs.Board.{seatVerdict}
 use Rattle.board.specs.Numbers.{verdictNumber}
-use native.Mathlib.Omega.{arith}
 use borrow.Author.Needs.{needs}
 use Rattle.board.proofs.exports.daisarnica_fresh.Statement.{statement}
 use Rattle.board.proofs.exports.daisarnica_fresh.Tie as tie
-use Rattle.board.proofs.exports.daisarnica_fresh.Reads as reads
-use Rattle.board.proofs.exports.daisarnica_fresh.Lts as lts
-use Rattle.board.proofs.fresh_record.Reads as fresh-record-reads
-use Rattle.board.proofs.numbers.seat_in.Reads as seat-in-reads
-use Rattle.board.proofs.numbers.verdict_number.Reads as verdict-number-reads
-use Rattle.board.proofs.seat_verdict.Reads as seat-verdict-reads
-use Rattle.image.proofs.rows_of.Reads as rows-of-reads
 
 -- src/exports.rt:22:9
 seat-in-requires : tie.Need-seat-in-requires

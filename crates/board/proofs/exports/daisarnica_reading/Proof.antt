@@ -1,15 +1,10 @@
 use mathlib.Core.List.{[], _∷_}
 use Prim.Native.Nat.{ℕ}
 use Rattle.protocol.specs.Counter.{countedNumbers}
-use mathlib.Core.Path.{_≡_, sym, _∙_, ap}
-use native.Mathlib.Omega.{arith}
+use mathlib.Core.Path.{sym, _∙_, ap}
 use borrow.Author.Needs.{needs}
 use Rattle.board.proofs.exports.daisarnica_reading.Statement.{statement}
 use Rattle.board.proofs.exports.daisarnica_reading.Tie as tie
-use Rattle.board.proofs.exports.daisarnica_reading.Reads as reads
-use Rattle.board.proofs.exports.daisarnica_reading.Lts as lts
-use Rattle.board.proofs.numbers.verdict_number.Reads as verdict-number-reads
-use Rattle.head.proofs.counter_reading.Reads as counter-reading-reads
 
 -- src/exports.rt:87:9
 counter-reading-requires : tie.Need-counter-reading-requires

@@ -1,15 +1,8 @@
 use Rattle.board.specs.Numbers.{verdictNumber}
-use mathlib.Core.Path.{_≡_, sym, _∙_, ap}
-use native.Mathlib.Omega.{arith}
+use mathlib.Core.Path.{sym, _∙_, ap}
 use borrow.Author.Needs.{needs}
 use Rattle.board.proofs.exports.daisarnica_result.Statement.{statement}
 use Rattle.board.proofs.exports.daisarnica_result.Tie as tie
-use Rattle.board.proofs.exports.daisarnica_result.Reads as reads
-use Rattle.board.proofs.exports.daisarnica_result.Lts as lts
-use Rattle.board.proofs.numbers.result_numbers.Reads as result-numbers-reads
-use Rattle.board.proofs.numbers.rows_verdict.Reads as rows-verdict-reads
-use Rattle.board.proofs.numbers.verdict_number.Reads as verdict-number-reads
-use Rattle.image.proofs.record_in.Reads as record-in-reads
 
 -- src/exports.rt:56:9
 rows-verdict-requires : tie.Need-rows-verdict-requires

@@ -1,10 +1,7 @@
 use borrow.Author.Tests.{le-ltb, lt-ltb}
-use native.Mathlib.Omega.{arith}
 use borrow.Author.Needs.{needs}
 use Rattle.board.proofs.numbers.action_in.Statement.{statement}
 use Rattle.board.proofs.numbers.action_in.Tie as tie
-use Rattle.board.proofs.numbers.action_in.Reads as reads
-use Rattle.board.proofs.numbers.action_in.Lts as lts
 
 -- src/numbers.rt:49:8
 array-read-if1 : tie.Need-array-read-if1

@@ -1,16 +1,9 @@
-use mathlib.Core.Path.{_≡_, sym, _∙_}
+use mathlib.Core.Path.{sym, _∙_}
 use borrow.Author.Tests.{ne-eqb}
 use Rattle.protocol.specs.Record.{correction, outcome}
-use native.Mathlib.Omega.{arith}
 use borrow.Author.Needs.{needs}
 use Rattle.board.proofs.numbers.correction_of.Statement.{statement}
 use Rattle.board.proofs.numbers.correction_of.Tie as tie
-use Rattle.board.proofs.numbers.correction_of.Reads as reads
-use Rattle.board.proofs.numbers.correction_of.Lts as lts
-use Rattle.board.proofs.numbers.difference.Reads as difference-reads
-use Rattle.board.proofs.numbers.reading_or_0.Reads as reading-or-0-reads
-use Rattle.head.proofs.chosen_start.Reads as chosen-start-reads
-use Rattle.head.proofs.outcome.Reads as outcome-reads
 
 -- src/numbers.rt:175:8
 outcome-requires : tie.Need-outcome-requires

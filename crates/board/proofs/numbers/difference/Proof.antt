@@ -1,10 +1,7 @@
 use Rattle.board.proofs.Signed.{difference-fits, difference-is}
-use native.Mathlib.Omega.{arith}
 use borrow.Author.Needs.{needs}
 use Rattle.board.proofs.numbers.difference.Statement.{statement}
 use Rattle.board.proofs.numbers.difference.Tie as tie
-use Rattle.board.proofs.numbers.difference.Reads as reads
-use Rattle.board.proofs.numbers.difference.Lts as lts
 
 -- src/numbers.rt:168:5
 cast-result : tie.Need-cast-result

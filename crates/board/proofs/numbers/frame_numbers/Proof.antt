@@ -1,10 +1,6 @@
-use native.Mathlib.Omega.{arith}
 use borrow.Author.Needs.{needs}
 use Rattle.board.proofs.numbers.frame_numbers.Statement.{statement}
 use Rattle.board.proofs.numbers.frame_numbers.Tie as tie
-use Rattle.board.proofs.numbers.frame_numbers.Reads as reads
-use Rattle.board.proofs.numbers.frame_numbers.Lts as lts
-use Rattle.board.proofs.numbers.vote_numbers.Reads as vote-numbers-reads
 
 -- src/numbers.rt:126:27
 enum-told : tie.Need-enum-told

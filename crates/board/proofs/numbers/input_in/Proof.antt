@@ -1,10 +1,6 @@
-use native.Mathlib.Omega.{arith}
 use borrow.Author.Needs.{needs}
 use Rattle.board.proofs.numbers.input_in.Statement.{statement}
 use Rattle.board.proofs.numbers.input_in.Tie as tie
-use Rattle.board.proofs.numbers.input_in.Reads as reads
-use Rattle.board.proofs.numbers.input_in.Lts as lts
-use Rattle.board.proofs.numbers.action_in.Reads as action-in-reads
 
 -- src/numbers.rt:61:17
 action-in-requires : tie.Need-action-in-requires

@@ -1,16 +1,9 @@
-use mathlib.Core.Path.{_≡_, sym, _∙_}
+use mathlib.Core.Path.{sym, _∙_}
 use Rattle.protocol.specs.Record.{outcome}
-use borrow.Author.Tests.{eq-eqb, ne-eqb}
-use native.Mathlib.Omega.{arith}
+use borrow.Author.Tests.{ne-eqb}
 use borrow.Author.Needs.{needs}
 use Rattle.board.proofs.numbers.result_numbers.Statement.{statement}
 use Rattle.board.proofs.numbers.result_numbers.Tie as tie
-use Rattle.board.proofs.numbers.result_numbers.Reads as reads
-use Rattle.board.proofs.numbers.result_numbers.Lts as lts
-use Rattle.board.proofs.numbers.number_or_0.Reads as number-or-0-reads
-use Rattle.board.proofs.numbers.reading_or_0.Reads as reading-or-0-reads
-use Rattle.head.proofs.chosen_start.Reads as chosen-start-reads
-use Rattle.head.proofs.outcome.Reads as outcome-reads
 
 -- src/numbers.rt:149:9
 outcome-requires : tie.Need-outcome-requires

@@ -1,10 +1,6 @@
-use native.Mathlib.Omega.{arith}
 use borrow.Author.Needs.{needs}
 use Rattle.board.proofs.numbers.rows_after.Statement.{statement}
 use Rattle.board.proofs.numbers.rows_after.Tie as tie
-use Rattle.board.proofs.numbers.rows_after.Reads as reads
-use Rattle.board.proofs.numbers.rows_after.Lts as lts
-use Rattle.image.proofs.rows_of.Reads as rows-of-reads
 
 -- src/numbers.rt:90:30
 enum-told : tie.Need-enum-told

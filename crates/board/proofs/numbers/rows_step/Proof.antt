@@ -1,13 +1,7 @@
 use Rattle.board.specs.Numbers.{rowsStep}
-use native.Mathlib.Omega.{arith}
 use borrow.Author.Needs.{needs}
 use Rattle.board.proofs.numbers.rows_step.Statement.{statement}
 use Rattle.board.proofs.numbers.rows_step.Tie as tie
-use Rattle.board.proofs.numbers.rows_step.Reads as reads
-use Rattle.board.proofs.numbers.rows_step.Lts as lts
-use Rattle.head.proofs.step.Reads as step-reads
-use Rattle.image.proofs.record_in.Reads as record-in-reads
-use Rattle.image.proofs.rows_fit.Reads as rows-fit-reads
 
 -- src/numbers.rt:75:9
 record-in-requires : tie.Need-record-in-requires

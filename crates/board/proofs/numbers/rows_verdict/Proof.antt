@@ -1,14 +1,8 @@
-use mathlib.Core.Path.{_≡_, sym, _∙_}
+use mathlib.Core.Path.{sym, _∙_}
 use Rattle.board.specs.Numbers.{rowsVerdict}
-use native.Mathlib.Omega.{arith}
 use borrow.Author.Needs.{needs}
 use Rattle.board.proofs.numbers.rows_verdict.Statement.{statement}
 use Rattle.board.proofs.numbers.rows_verdict.Tie as tie
-use Rattle.board.proofs.numbers.rows_verdict.Reads as reads
-use Rattle.board.proofs.numbers.rows_verdict.Lts as lts
-use Rattle.image.proofs.record_in.Reads as record-in-reads
-use Rattle.image.proofs.rows_fit.Reads as rows-fit-reads
-use Rattle.ranges.proofs.record_in_range.Reads as record-in-range-reads
 
 -- src/numbers.rt:137:8
 rows-fit-requires : tie.Need-rows-fit-requires

@@ -1,10 +1,6 @@
-use native.Mathlib.Omega.{arith}
 use borrow.Author.Needs.{needs}
 use Rattle.board.proofs.numbers.seat_in.Statement.{statement}
 use Rattle.board.proofs.numbers.seat_in.Tie as tie
-use Rattle.board.proofs.numbers.seat_in.Reads as reads
-use Rattle.board.proofs.numbers.seat_in.Lts as lts
-use Rattle.image.proofs.byte_in.Reads as byte-in-reads
 
 -- src/numbers.rt:43:15
 byte-in-requires : tie.Need-byte-in-requires

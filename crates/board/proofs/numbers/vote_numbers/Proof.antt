@@ -1,9 +1,6 @@
-use native.Mathlib.Omega.{arith}
 use borrow.Author.Needs.{needs}
 use Rattle.board.proofs.numbers.vote_numbers.Statement.{statement}
 use Rattle.board.proofs.numbers.vote_numbers.Tie as tie
-use Rattle.board.proofs.numbers.vote_numbers.Reads as reads
-use Rattle.board.proofs.numbers.vote_numbers.Lts as lts
 
 -- src/numbers.rt:117:38
 enum-told : tie.Need-enum-told

@@ -1,10 +1,7 @@
 use borrow.Author.Tests.{le-ltb, lt-ltb}
-use native.Mathlib.Omega.{arith}
 use borrow.Author.Needs.{needs}
 use Rattle.image.proofs.reads.byte_in.Statement.{statement}
 use Rattle.image.proofs.reads.byte_in.Tie as tie
-use Rattle.image.proofs.reads.byte_in.Reads as reads
-use Rattle.image.proofs.reads.byte_in.Lts as lts
 
 -- src/reads.rt:14:9
 cast-result : tie.Need-cast-result

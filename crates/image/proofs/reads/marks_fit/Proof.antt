@@ -1,11 +1,8 @@
 use Rattle.image.specs.Rows.{marksFit}
 use borrow.Author.Tests.{le-ltb, lt-ltb}
-use native.Mathlib.Omega.{arith}
 use borrow.Author.Needs.{needs}
 use Rattle.image.proofs.reads.marks_fit.Statement.{statement}
 use Rattle.image.proofs.reads.marks_fit.Tie as tie
-use Rattle.image.proofs.reads.marks_fit.Reads as reads
-use Rattle.image.proofs.reads.marks_fit.Lts as lts
 
 -- src/reads.rt:97:5
 array-read-if1 : tie.Need-array-read-if1

@@ -1,11 +1,7 @@
 use borrow.Author.Tests.{eq-eqb, ne-eqb}
-use native.Mathlib.Omega.{arith}
 use borrow.Author.Needs.{needs}
 use Rattle.image.proofs.reads.number_in.Statement.{statement}
 use Rattle.image.proofs.reads.number_in.Tie as tie
-use Rattle.image.proofs.reads.number_in.Reads as reads
-use Rattle.image.proofs.reads.number_in.Lts as lts
-use Rattle.image.proofs.reads.byte_in.Reads as byte-in-reads
 
 -- src/reads.rt:26:39
 sub-byte-in : tie.Need-sub-byte-in

@@ -1,11 +1,6 @@
-use native.Mathlib.Omega.{arith}
 use borrow.Author.Needs.{needs}
 use Rattle.image.proofs.reads.phase_in.Statement.{statement}
 use Rattle.image.proofs.reads.phase_in.Tie as tie
-use Rattle.image.proofs.reads.phase_in.Reads as reads
-use Rattle.image.proofs.reads.phase_in.Lts as lts
-use Rattle.image.proofs.reads.byte_in.Reads as byte-in-reads
-use Rattle.image.proofs.reads.number_in.Reads as number-in-reads
 
 -- src/reads.rt:43:28
 array-read-number-in : tie.Need-array-read-number-in

@@ -1,10 +1,7 @@
 use borrow.Author.Tests.{eq-eqb, ne-eqb}
-use native.Mathlib.Omega.{arith}
 use borrow.Author.Needs.{needs}
 use Rattle.image.proofs.reads.reading_in.Statement.{statement}
 use Rattle.image.proofs.reads.reading_in.Tie as tie
-use Rattle.image.proofs.reads.reading_in.Reads as reads
-use Rattle.image.proofs.reads.reading_in.Lts as lts
 
 -- src/reads.rt:36:41
 sub-t4 : tie.Need-sub-t4

@@ -1,13 +1,7 @@
 use Rattle.image.specs.Rows.{recordIn}
-use native.Mathlib.Omega.{arith}
 use borrow.Author.Needs.{needs}
 use Rattle.image.proofs.reads.record_in.Statement.{statement}
 use Rattle.image.proofs.reads.record_in.Tie as tie
-use Rattle.image.proofs.reads.record_in.Reads as reads
-use Rattle.image.proofs.reads.record_in.Lts as lts
-use Rattle.image.proofs.reads.byte_in.Reads as byte-in-reads
-use Rattle.image.proofs.reads.phase_in.Reads as phase-in-reads
-use Rattle.image.proofs.reads.senders_in.Reads as senders-in-reads
 
 -- src/reads.rt:75:13
 array-copy-out-a : tie.Need-array-copy-out-a

@@ -1,12 +1,8 @@
 use borrow.Author.Tests.{eq-eqb, ne-eqb}
 use Rattle.image.specs.Rows.{rowsFit}
-use native.Mathlib.Omega.{arith}
 use borrow.Author.Needs.{needs}
 use Rattle.image.proofs.reads.rows_fit.Statement.{statement}
 use Rattle.image.proofs.reads.rows_fit.Tie as tie
-use Rattle.image.proofs.reads.rows_fit.Reads as reads
-use Rattle.image.proofs.reads.rows_fit.Lts as lts
-use Rattle.image.proofs.reads.marks_fit.Reads as marks-fit-reads
 
 -- src/reads.rt:104:13
 array-copy-out-b : tie.Need-array-copy-out-b

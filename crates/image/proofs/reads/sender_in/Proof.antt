@@ -1,11 +1,6 @@
-use native.Mathlib.Omega.{arith}
 use borrow.Author.Needs.{needs}
 use Rattle.image.proofs.reads.sender_in.Statement.{statement}
 use Rattle.image.proofs.reads.sender_in.Tie as tie
-use Rattle.image.proofs.reads.sender_in.Reads as reads
-use Rattle.image.proofs.reads.sender_in.Lts as lts
-use Rattle.image.proofs.reads.number_in.Reads as number-in-reads
-use Rattle.image.proofs.reads.reading_in.Reads as reading-in-reads
 
 -- src/reads.rt:50:28
 array-read-reading-in : tie.Need-array-read-reading-in

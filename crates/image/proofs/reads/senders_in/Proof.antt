@@ -9,9 +9,6 @@ use native.Mathlib.Omega.{arith}
 use borrow.Author.Needs.{needs}
 use Rattle.image.proofs.reads.senders_in.Statement.{statement}
 use Rattle.image.proofs.reads.senders_in.Tie as tie
-use Rattle.image.proofs.reads.senders_in.Reads as reads
-use Rattle.image.proofs.reads.senders_in.Lts as lts
-use Rattle.image.proofs.reads.sender_in.Reads as sender-in-reads
 
 abbrev Inv-loop : tie.InvT-loop
 Inv-loop rows l₀ i₀ l i =

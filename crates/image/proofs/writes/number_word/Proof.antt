@@ -1,9 +1,6 @@
-use native.Mathlib.Omega.{arith}
 use borrow.Author.Needs.{needs}
 use Rattle.image.proofs.writes.number_word.Statement.{statement}
 use Rattle.image.proofs.writes.number_word.Tie as tie
-use Rattle.image.proofs.writes.number_word.Reads as reads
-use Rattle.image.proofs.writes.number_word.Lts as lts
 
 -- src/writes.rt:11:32
 enum-told : tie.Need-enum-told

@@ -1,10 +1,7 @@
 use borrow.Author.Tests.{le-ltb, lt-ltb}
-use native.Mathlib.Omega.{arith}
 use borrow.Author.Needs.{needs}
 use Rattle.image.proofs.writes.reading_word.Statement.{statement}
 use Rattle.image.proofs.writes.reading_word.Tie as tie
-use Rattle.image.proofs.writes.reading_word.Reads as reads
-use Rattle.image.proofs.writes.reading_word.Lts as lts
 
 -- src/writes.rt:21:34
 enum-told : tie.Need-enum-told

@@ -1,14 +1,7 @@
 use Rattle.image.specs.Rows.{rowsOf}
-use native.Mathlib.Omega.{arith}
 use borrow.Author.Needs.{needs}
 use Rattle.image.proofs.writes.rows_of.Statement.{statement}
 use Rattle.image.proofs.writes.rows_of.Tie as tie
-use Rattle.image.proofs.writes.rows_of.Reads as reads
-use Rattle.image.proofs.writes.rows_of.Lts as lts
-use Rattle.image.proofs.writes.first_row.Reads as first-row-reads
-use Rattle.image.proofs.writes.phase_row.Reads as phase-row-reads
-use Rattle.image.proofs.writes.second_row.Reads as second-row-reads
-use Rattle.image.proofs.writes.with_senders.Reads as with-senders-reads
 
 -- src/writes.rt:104:9
 first-row-requires : tie.Need-first-row-requires

@@ -7,9 +7,6 @@ use native.Mathlib.Omega.{arith}
 use borrow.Author.Needs.{needs}
 use Rattle.image.proofs.writes.with_senders.Statement.{statement}
 use Rattle.image.proofs.writes.with_senders.Tie as tie
-use Rattle.image.proofs.writes.with_senders.Reads as reads
-use Rattle.image.proofs.writes.with_senders.Lts as lts
-use Rattle.image.proofs.writes.sender_row.Reads as sender-row-reads
 
 abbrev Inv-loop : tie.InvT-loop
 Inv-loop senders out₀ i₀ out i =
