@@ -39,11 +39,11 @@ record Says (q : ℕ) (r : HeadRecord) : Type 0 where
   adjustment-is : timeOf (adjustmentWord r) ≡ r .adjustment .0
   start-is : timeOf (startWord r) ≡ readingOr0 (chosenStart r)
 
-number-below : (n : ℕ) (m : OptNumber) (sent : ℕ) → n ≤ 16 → SentInRange n m sent → numberOr0 m < 16
+pub number-below : (n : ℕ) (m : OptNumber) (sent : ℕ) → n ≤ 16 → SentInRange n m sent → numberOr0 m < 16
 number-below n NoNumber sent l h = omega arith
 number-below n (SomeNumber v) sent l h = omega arith
 
-start-below : (r : HeadRecord) (m : OptNumber) → InRange r → SentInRange (r .n) m (r .vote .sent) → readingOr0 (startOfChoice r m) < 2 ^ 28
+pub start-below : (r : HeadRecord) (m : OptNumber) → InRange r → SentInRange (r .n) m (r .vote .sent) → readingOr0 (startOfChoice r m) < 2 ^ 28
 start-below r NoNumber i h = omega arith
 start-below r (SomeNumber v) i h = i .kept v .below (omega arith) .start
 

@@ -3,13 +3,11 @@
 use mathlib.Core.Path.{_≡_, refl, sym, _∙_, ap}
 use mathlib.Core.Bool.{true}
 use mathlib.Core.List.{List, [], _++_}
-use Prim.Native.Nat.{ℕ, _*_, _^_, _≤_, _<_, min}
+use Prim.Native.Nat.{ℕ, _*_, _≤_, _<_, min}
 use native.Mathlib.Omega.{arith}
 use lib.ListN.{length, drop}
 use borrow.Author.Tests.{lt-ltb, le-ltb}
 use Rattle.protocol.specs.declared.HeadRecord.{HeadRecord}
-use Rattle.protocol.specs.declared.OptNumber.{OptNumber}
-use Rattle.protocol.specs.declared.OptNumber.the-variants.{NoNumber, SomeNumber}
 use Rattle.protocol.specs.declared.Setting.{Setting}
 use Rattle.protocol.specs.declared.Cause.{Cause}
 use Rattle.protocol.specs.declared.Cause.the-variants.{ShortBuffer}
@@ -18,13 +16,14 @@ use Rattle.protocol.specs.declared.Verdict.the-variants.{Accepted, Refused}
 use Rattle.protocol.specs.declared.Replayed.{Replayed}
 use Rattle.protocol.specs.declared.Replayed.the-variants.{Filled, TurnedBack}
 use Rattle.protocol.specs.Words.{headsFit, settingAt, entryCount}
-use Rattle.protocol.specs.Record.{numberOr0, readingOr0, startOfChoice, chosenStart}
+use Rattle.protocol.specs.Record.{chosenStart}
 use Rattle.protocol.specs.Causes.{sheetVerdict}
 use Rattle.protocol.specs.Run.{History, recordOf, Run, stopped, ran, runOf}
 use Rattle.protocol.specs.Results.{wordsFrom, resultWords, fill, replay}
 use Rattle.protocol.proofs.Effects.{votes, adjusts}
 use Rattle.protocol.proofs.Valid.{Valid, valid-run, heads-fit}
-use Rattle.protocol.proofs.Ranges.{InRange, SentInRange, run-in-range}
+use Rattle.protocol.proofs.Ranges.{InRange, run-in-range}
+use Rattle.protocol.proofs.ResultWords.{number-below, start-below}
 use Rattle.sheet.specs.declared.Ran.{Ran}
 use Rattle.sheet.specs.Bench.{table, sentOf, benchOf, noSetting, answerOf, runFirst}
 use Rattle.sheet.proofs.Tables.{table-at, noRecord}
@@ -34,22 +33,14 @@ use Rattle.results.proofs.Words.{same-words}
 
 -- A RECORD IN ITS RANGES FITS INTO ITS WORDS
 
-number-fits : {n : ℕ} (m : OptNumber) (sent : ℕ) → n ≤ 16 → SentInRange n m sent → numberOr0 m < 16
-number-fits NoNumber sent l h = omega arith
-number-fits (SomeNumber v) sent l h = omega arith
-
-start-fits : {r : HeadRecord} (m : OptNumber) → InRange r → SentInRange (r .n) m (r .vote .sent) → readingOr0 (startOfChoice r m) < 2 ^ 28
-start-fits NoNumber i h = omega arith
-start-fits (SomeNumber v) i h = i .kept v .below (omega arith) .start
-
 writable : {r : HeadRecord} → InRange r → Writable r
 unfolding chosenStart
 writable {r} i =
     record {
-      candidate = number-fits (r .vote .choice) (r .vote .sent) (i .heads .1) (i .phase votes);
-      adjuster = number-fits (r .adjust .choice) (r .adjust .sent) (i .heads .1) (i .phase adjusts);
+      candidate = number-below (r .n) (r .vote .choice) (r .vote .sent) (i .heads .1) (i .phase votes);
+      adjuster = number-below (r .n) (r .adjust .choice) (r .adjust .sent) (i .heads .1) (i .phase adjusts);
       adjustment = i .adjustment;
-      start = start-fits (r .vote .choice) i (i .phase votes);
+      start = start-below r (r .vote .choice) i (i .phase votes);
     }
 
 -- THE ENDS OF A REPLAY
