@@ -119,9 +119,11 @@ filled ws out h e f = go (sheetVerdict ws) e
     go (Refused c) e = absurd (let z : _≡_ {A = ℕ} 0 1 = cc in omega arith)
     go Accepted e = rw (le-ltb (length out) (wordsPerHead * settingAt ws .n) f, e) refl
 
-pub third-point-in-words : (ws out : List ℕ) → ThirdPointInWords ws out
+-- an agreement of the heads' records is one of the words that the replay leaves
+pub agreement-in-words : (ws out : List ℕ) (h : History) → runSheet ws ≡ ran h → wordsPerHead * settingAt ws .n ≤ length out
+    → Agreement (settingAt ws) h (λ q. endingOf (recordOf (settingAt ws) h q)) → Agreement (settingAt ws) h (endingInWords (replay ws out .buffer))
 unfolding endingOf
-third-point-in-words ws out h e k f = record {
+agreement-in-words ws out h e f a = record {
   has-clock = λ c. ap (λ (x : Ending). x .outcome) (says-so c) ∙ a .has-clock c;
   same-candidate = λ cp cq. ap (λ (x : Ending). x .candidate) (says-so cp) ∙ a .same-candidate cp cq ∙ ap (λ (x : Ending). x .candidate) (sym (says-so cq));
   same-adjuster = λ cp cq. ap (λ (x : Ending). x .adjuster) (says-so cp) ∙ a .same-adjuster cp cq ∙ ap (λ (x : Ending). x .adjuster) (sym (says-so cq));
@@ -137,10 +139,10 @@ third-point-in-words ws out h e k f = record {
     g : Setting
     g = settingAt ws
 
-    a : Agreement (settingAt ws) h (λ q. endingOf (recordOf (settingAt ws) h q))
-    a = third-point ws h e k
-
     says-so : {q : ℕ} → CorrectHead (settingAt ws) q → endingInWords (replay ws out .buffer) q ≡ endingOf (recordOf (settingAt ws) h q)
     says-so {q} c =
         subst (λ (b : List ℕ). endingInWords b q ≡ endingOf (recordOf (settingAt ws) h q)) (sym (ap (λ (x : Replay). x .buffer) (filled ws out h e f)))
         (words-say (settingAt ws) h (drop (wordsPerHead * settingAt ws .n) out) (accepted-sheet ws h e) q (c .is-head) (a .has-clock c))
+
+pub third-point-in-words : (ws out : List ℕ) → ThirdPointInWords ws out
+third-point-in-words ws out h e k f = agreement-in-words ws out h e f (third-point ws h e k)

@@ -1,0 +1,9 @@
+pub mod Steady
+pub mod Heads
+pub mod Starts
+pub mod Sent
+pub mod Moments
+pub mod Reached
+pub mod Entries
+pub mod Keeps
+pub mod Verdicts

@@ -1,0 +1,41 @@
+use Rattle.protocol.specs.Base.{countBelow}
+use Rattle.protocol.specs.Words.{isCorrect}
+use Rattle.protocol.specs.Premises.{premise1}
+use Rattle.premises.proofs.Loops.{leb-minus}
+use native.Mathlib.Omega.{arith}
+use borrow.Author.Needs.{needs}
+use Rattle.premises.proofs.enough_correct.Statement.{statement}
+use Rattle.premises.proofs.enough_correct.Tie as tie
+use Rattle.premises.proofs.enough_correct.Reads as reads
+use Rattle.premises.proofs.enough_correct.Lts as lts
+use Rattle.premises.proofs.correct_heads.Reads as correct-heads-reads
+
+-- src/lib.rt:71:5
+cast-result : tie.Need-cast-result
+cast-result c = search needs
+
+-- src/lib.rt:71:19
+correct-heads-requires : tie.Need-correct-heads-requires
+correct-heads-requires c κs = search needs
+
+-- src/lib.rt:71:19
+cast-result-2 : tie.Need-cast-result-2
+cast-result-2 c = search needs
+
+-- src/lib.rt:71:45
+cast-result-3 : tie.Need-cast-result-3
+cast-result-3 c = search needs
+
+-- src/lib.rt:71:19
+add-result : tie.Need-add-result
+add-result c = search needs
+
+-- src/lib.rt:68:1
+returns : tie.Need-returns
+unfolding premise1
+returns c = rw (c .before .correct-heads .ensures .0) (let g = c .before .before .before .args .g in leb-minus (g .n) (countBelow (g .n) (isCorrect g)) (g .f))
+
+pub enough-correct-spec : {M : Type 1} → statement M
+enough-correct-spec =
+    tie.close
+    (tie.spec cast-result correct-heads-requires cast-result-2 cast-result-3 add-result returns)

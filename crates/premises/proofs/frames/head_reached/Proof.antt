@@ -1,0 +1,46 @@
+use mathlib.Core.Path.{sym, _∙_}
+use Rattle.premises.proofs.Loops.{asked-and, asked-fails, unasked}
+use native.Mathlib.Omega.{arith}
+use borrow.Author.Needs.{needs}
+use Rattle.premises.proofs.frames.head_reached.Statement.{statement}
+use Rattle.premises.proofs.frames.head_reached.Tie as tie
+use Rattle.premises.proofs.frames.head_reached.Reads as reads
+use Rattle.premises.proofs.frames.head_reached.Lts as lts
+use Rattle.premises.proofs.frames.frames_reached.Reads as frames-reached-reads
+use Rattle.premises.proofs.frames.phase_taken.Reads as phase-taken-reads
+use Rattle.words.proofs.is_correct.Reads as is-correct-reads
+
+-- src/frames.rt:119:8
+is-correct-requires : tie.Need-is-correct-requires
+is-correct-requires c κs = search needs
+
+-- src/frames.rt:120:12
+phase-taken-requires : tie.Need-phase-taken-requires
+phase-taken-requires c κs = search needs
+
+-- src/frames.rt:121:13
+frames-reached-requires : tie.Need-frames-reached-requires
+frames-reached-requires c κs = search needs
+
+-- src/frames.rt:121:13
+returns : tie.Need-returns
+returns c = c .frames-reached .ensures ∙ sym (asked-and _ _ _ (sym (c .before .before .before .before .is-correct .ensures) ∙ c .before .before .before .if1 .taken) (sym (c .before .before .phase-taken .ensures) ∙ c .before .if2 .taken))
+
+-- src/frames.rt:123:9
+returns-2 : tie.Need-returns-2
+returns-2 c = sym (asked-fails _ _ _ (sym (c .before .before .before .is-correct .ensures) ∙ c .before .before .if1 .taken) (sym (c .before .phase-taken .ensures) ∙ c .if2 .left))
+
+-- src/frames.rt:108:1
+returns-3 : tie.Need-returns-3
+returns-3 c = sym (unasked _ _ (sym (c .before .is-correct .ensures) ∙ c .if1 .left))
+
+pub head-reached-spec : {M : Type 1} → statement M
+head-reached-spec =
+    tie.close
+    (tie.spec
+    is-correct-requires
+    phase-taken-requires
+    frames-reached-requires
+    returns
+    returns-2
+    returns-3)

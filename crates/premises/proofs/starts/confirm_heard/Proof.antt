@@ -1,0 +1,35 @@
+use mathlib.Core.Path.{sym, _∙_}
+use borrow.Author.Tests.{eq-eqb, ne-eqb}
+use Rattle.premises.proofs.Loops.{asked-and, asked-fails, unasked}
+use native.Mathlib.Omega.{arith}
+use borrow.Author.Needs.{needs}
+use Rattle.premises.proofs.starts.confirm_heard.Statement.{statement}
+use Rattle.premises.proofs.starts.confirm_heard.Tie as tie
+use Rattle.premises.proofs.starts.confirm_heard.Reads as reads
+use Rattle.premises.proofs.starts.confirm_heard.Lts as lts
+use Rattle.premises.proofs.starts.within_tightness.Reads as within-tightness-reads
+use Rattle.sets.proofs.has_all.Reads as has-all-reads
+
+-- src/starts.rt:64:12
+has-all-requires : tie.Need-has-all-requires
+has-all-requires c κs = search needs
+
+-- src/starts.rt:65:13
+within-tightness-requires : tie.Need-within-tightness-requires
+within-tightness-requires c κs = search needs
+
+-- src/starts.rt:60:1
+returns : tie.Need-returns
+returns c = c .within-tightness .ensures ∙ sym (asked-and _ _ _ (eq-eqb _ _ (c .before .before .before .if1 .taken)) (sym (c .before .before .has-all .ensures) ∙ c .before .if2 .taken))
+
+-- src/starts.rt:60:1
+returns-2 : tie.Need-returns-2
+returns-2 c = sym (asked-fails _ _ _ (eq-eqb _ _ (c .before .before .if1 .taken)) (sym (c .before .has-all .ensures) ∙ c .if2 .left))
+
+-- src/starts.rt:60:1
+returns-3 : tie.Need-returns-3
+returns-3 c = sym (unasked _ _ (ne-eqb _ _ (c .if1 .left)))
+
+pub confirm-heard-spec : {M : Type 1} → statement M
+confirm-heard-spec =
+    tie.close (tie.spec has-all-requires within-tightness-requires returns returns-2 returns-3)

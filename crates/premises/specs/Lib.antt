@@ -1,0 +1,4 @@
+pub mod Drift
+pub mod Between
+pub mod Starts
+pub mod Frames
