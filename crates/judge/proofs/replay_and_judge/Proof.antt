@@ -29,9 +29,12 @@ returns : tie.Need-returns
 returns c =
     let A = c .before .before .before .before .before .before .before .args in
     let R = c .before .before .before .replay in
-    let r : Report = record { replayed = R .result; judged = c .judge .result } in
-    (R .ensures .0, c .judge .ensures .0, R .ensures .1,
-    subst (AgreesInWords (now (A .sheet)) r) (sym (R .ensures .1)) (claim-in-words (now (A .sheet)) (now (A .out)) r (R .ensures .0) (c .judge .ensures .1)))
+    let r : Report = record { replayed = R .result; judged = c .judge .result } in (
+      R .ensures .0,
+      c .judge .ensures .0,
+      R .ensures .1,
+      subst (AgreesInWords (now (A .sheet)) r) (sym (R .ensures .1)) (claim-in-words (now (A .sheet)) (now (A .out)) r (R .ensures .0) (c .judge .ensures .1)),
+    )
 
 pub replay-and-judge-spec : {M : Type 1} → statement M
 replay-and-judge-spec = tie.close (tie.spec replay-requires judge-requires same-length returns)

@@ -1,0 +1,4 @@
+-- Laws that the proofs of this crate's functions cite.
+pub mod Lines
+pub mod Lengths
+pub mod Sheets
