@@ -23,11 +23,11 @@ use Rattle.sets.proofs.Sets.{set-with, set-ext, same-test}
 use Rattle.premises.specs.declared.Watch.{Watch}
 use Rattle.premises.specs.Drift.{leadOf, lagOf, lesserOf, staysSteady}
 use Rattle.premises.specs.Between.{watchAfter}
-use Rattle.premises.specs.Starts.{startPlace, timeAt, earliest, latest, withinTightness, confirmHeard, startHeardAt}
+use Rattle.premises.specs.Starts.{startPlace, startTime, timeAt, earliest, latest, withinTightness, confirmHeard, startHeardAt}
 use Rattle.premises.specs.Frames.{receiversPlace}
 use Rattle.sheet.specs.Bench.{table}
 use Rattle.sheet.proofs.Tables.{table-at, set-table}
-use Rattle.judge.specs.Seen.{tookSets, receiverSets, leastOf, leads, lags, watchOf}
+use Rattle.judge.specs.Seen.{tookSets, receiverSets, startTimes, leastOf, leads, lags, watchOf}
 use Rattle.judge.proofs.Heads.{Heads, all-correct}
 use Rattle.judge.proofs.Starts.{within, earliest-same, latest-same}
 use Rattle.judge.proofs.Steady.{Until, steady-with-all}
@@ -58,6 +58,11 @@ hit false b false d e f = f
 miss : (a b c : Bool) → b ≡ false → ((a && b) || c) ≡ c
 miss true b c e = rw e refl
 miss false b c e = refl
+
+time-at : (s : History) (v q : ℕ) → v < 16 → q < 16 → timeAt (startTimes s) v q ≡ lastStart s v q
+unfolding startTimes
+time-at s v q hv hq =
+    table-at (λ j. lastStart s (j / 16) (j % 16)) 256 (v * 16 + q) 0 (omega arith) ∙ ap₂ (lastStart s) (omega arith) (omega arith)
 
 module _ (e : Entry) (r : HeadRecord) (f : Frame) (s : History) where
   pub took-next : e .action < 16 → e .head < 16 → set (tookSets s) (e .action % 16) (withHead (getD (tookSets s) (e .action % 16) 0) (e .head)) ≡ tookSets (record { entry = e; after = r; frame = f } ∷ s)
@@ -108,38 +113,41 @@ module _ (e : Entry) (r : HeadRecord) (f : Frame) (s : History) where
   -- TIMES
 
   -- the real time at which a start last reached each head
-  pub started-next : (started : List ℕ) → length started ≡ 257 → e .head < 16 → e .sender < 16 → (e .action ≡ 2 → e .serial ≡ 0)
-      → ((v q : ℕ) → v < 16 → q < 16 → timeAt started v q ≡ lastStart s v q)
-      → (v q : ℕ) → v < 16 → q < 16 → timeAt (set started (startPlace e) (e .time .0)) v q ≡ lastStart (record { entry = e; after = r; frame = f } ∷ s) v q
-  unfolding lastStart
-  started-next started size hq hp zero-serial old v q lv lq = go mine refl
+  pub started-next : e .head < 16 → e .sender < 16 → (e .action ≡ 2 → e .serial ≡ 0)
+      → set (startTimes s) (startPlace e) (startTime e (getD (startTimes s) (startPlace e) 0)) ≡ startTimes (record { entry = e; after = r; frame = f } ∷ s)
+  unfolding startTimes lastStart
+  started-next hq hp zero-serial =
+      set-table (λ j. lastStart s (j / 16) (j % 16)) (λ j. lastStart (record { entry = e; after = r; frame = f } ∷ s) (j / 16) (j % 16)) 256 (startPlace e) _ 0 (omega arith)
+      (at (startPlace e / 16) (startPlace e % 16) (omega arith) (omega arith) (eqb (e .action) 2) refl
+      ∙ ap (λ (x : ℕ). startTime e x) (sym (table-at (λ j. lastStart s (j / 16) (j % 16)) 256 (startPlace e) 0 (omega arith))))
+      elsewhere
     where
-      mine : Bool
-      mine = (eqb (e .head) q && eqb (e .action) 2) && (eqb (e .sender) v && eqb (e .serial) 0)
-
-      place-of-start : (b : Bool) → eqb (e .action) 2 ≡ b → startPlace e ≡ cond b (e .sender % 16 * 16 + e .head % 16) 256
-      place-of-start b t = ap (λ (b : Bool). cond b (e .sender % 16 * 16 + e .head % 16) 256) t
-
       all-four : {a b c d : Bool} → a ≡ true → b ≡ true → c ≡ true → d ≡ true → ((a && b) && (c && d)) ≡ true
       all-four x y z w = rw (x, y, z, w) refl
 
-      same-place : (b : Bool) → eqb (e .action) 2 ≡ b → v * 16 + q ≡ startPlace e → mine ≡ true
-      same-place true t z =
-          let at = z ∙ place-of-start true t in
-          all-four (eq-eqb (e .head) q (omega arith)) t (eq-eqb (e .sender) v (omega arith)) (eq-eqb (e .serial) 0 (zero-serial (eqb-true (e .action) 2 t)))
-      same-place false t z = let at = z ∙ place-of-start false t in absurd (omega arith)
+      second : (a b c : Bool) → b ≡ false → ((a && b) && c) ≡ false
+      second true b c x = rw x refl
+      second false b c x = refl
 
-      go : (b : Bool) → mine ≡ b → timeAt (set started (startPlace e) (e .time .0)) v q ≡ cond b (e .time .0) (lastStart s v q)
-      go true t =
-          let x = and-left (eqb (e .head) q && eqb (e .action) 2) _ t in
-          let y = and-right (eqb (e .head) q && eqb (e .action) 2) _ t in
-          let head = eqb-true (e .head) q (and-left (eqb (e .head) q) _ x) in
-          let sender = eqb-true (e .sender) v (and-left (eqb (e .sender) v) _ y) in
-          let at = place-of-start true (and-right (eqb (e .head) q) _ x) in
-          let same : v * 16 + q ≡ startPlace e = omega arith in
-          ap (λ (j : ℕ). getD (set started (startPlace e) (e .time .0)) j 0) same ∙ getD-set-same started (startPlace e) (e .time .0) 0 (omega arith)
-      go false t =
-          getD-set-other started (startPlace e) (v * 16 + q) (e .time .0) 0 (λ z. absurd-bool (same-place (eqb (e .action) 2) refl z) t) ∙ old v q lv lq
+      at : (v q : ℕ) → v ≡ e .sender → q ≡ e .head → (b : Bool) → eqb (e .action) 2 ≡ b
+          → cond ((eqb (e .head) q && eqb (e .action) 2) && (eqb (e .sender) v && eqb (e .serial) 0)) (e .time .0) (lastStart s v q) ≡ startTime e (lastStart s v q)
+      at v q x y true t =
+          rw (all-four (eq-eqb (e .head) q (sym y)) t (eq-eqb (e .sender) v (sym x)) (eq-eqb (e .serial) 0 (zero-serial (eqb-true (e .action) 2 t))), t) refl
+      at v q x y false t = rw (second (eqb (e .head) q) (eqb (e .action) 2) (eqb (e .sender) v && eqb (e .serial) 0) t, t) refl
+
+      elsewhere : (j : ℕ) → j < 256 → eqb j (startPlace e) ≡ false
+          → cond ((eqb (e .head) (j % 16) && eqb (e .action) 2) && (eqb (e .sender) (j / 16) && eqb (e .serial) 0)) (e .time .0) (lastStart s (j / 16) (j % 16)) ≡ lastStart s (j / 16) (j % 16)
+      elsewhere j l d =
+          ap (λ (b : Bool). cond b (e .time .0) (lastStart s (j / 16) (j % 16)))
+          (cases ((eqb (e .head) (j % 16) && eqb (e .action) 2) && (eqb (e .sender) (j / 16) && eqb (e .serial) 0)) (λ t. absurd (contrary t)) (λ t. t))
+        where
+          contrary : ((eqb (e .head) (j % 16) && eqb (e .action) 2) && (eqb (e .sender) (j / 16) && eqb (e .serial) 0)) ≡ true → ⊥
+          contrary t =
+              let x = and-left (eqb (e .head) (j % 16)) _ (and-left (eqb (e .head) (j % 16) && eqb (e .action) 2) _ t) in
+              let y = and-left (eqb (e .sender) (j / 16)) _ (and-right (eqb (e .head) (j % 16) && eqb (e .action) 2) _ t) in
+              let head = eqb-true (e .head) (j % 16) x in
+              let sender = eqb-true (e .sender) (j / 16) y in
+              eqb-false j (startPlace e) d (omega arith)
 
   -- DRIFT
 
@@ -176,12 +184,11 @@ module _ (e : Entry) (r : HeadRecord) (f : Frame) (s : History) where
 
   -- STARTS
 
-  pub heard-next : (g : Setting) → Heads g → e .head < 16 → e .sender < 16 → (started : List ℕ)
-      → ((v q : ℕ) → v < 16 → q < 16 → timeAt started v q ≡ lastStart s v q) → ((q : ℕ) → lastStart s (e .head) q ≤ 2 ^ 28)
-      → (premise3 g s && startHeardAt g e (getD (tookSets s) 3 0) (getD (receiverSets s) (receiversPlace 2 (e .head) 0) 0) started)
+  pub heard-next : (g : Setting) → Heads g → e .head < 16 → e .sender < 16 → ((q : ℕ) → lastStart s (e .head) q ≤ 2 ^ 28)
+      → (premise3 g s && startHeardAt g e (getD (tookSets s) 3 0) (getD (receiverSets s) (receiversPlace 2 (e .head) 0) 0) (startTimes s))
       ≡ premise3 g (record { entry = e; after = r; frame = f } ∷ s)
   unfolding premise3 each startHeard
-  heard-next g H hq hp started is most =
+  heard-next g H hq hp most =
       and-swap (premise3 g s) _
       ∙ ap₂ (λ (a b : Bool). (a && b) && premise3 g s)
       (ap (λ (b : Bool). eqb (e .action) 3 ⇒ b) (ap₂ _&&_ everywhere near))
@@ -193,11 +200,11 @@ module _ (e : Entry) (r : HeadRecord) (f : Frame) (s : History) where
       low : (q : ℕ) → q < g .n → q < 16
       low q l = let z = H .at-most-16 in omega arith
 
-      near : withinTightness g started (e .head)
+      near : withinTightness g (startTimes s) (e .head)
           ≡ correctAll g (λ p. correctAll g (λ q. leb (distance (lastStart s (e .head) p) (lastStart s (e .head) q)) (g .tightness)))
       near =
-          ap₂ (λ (a b : ℕ). leb a (b + g .tightness)) (latest-same (isCorrect g) (timeAt started (e .head)) (lastStart s (e .head)) (g .n) (λ q l. is (e .head) q hq (low q l)))
-          (earliest-same (isCorrect g) (timeAt started (e .head)) (lastStart s (e .head)) (g .n) (λ q l. is (e .head) q hq (low q l)))
+          ap₂ (λ (a b : ℕ). leb a (b + g .tightness)) (latest-same (isCorrect g) (timeAt (startTimes s) (e .head)) (lastStart s (e .head)) (g .n) (λ q l. time-at s (e .head) q hq (low q l)))
+          (earliest-same (isCorrect g) (timeAt (startTimes s) (e .head)) (lastStart s (e .head)) (g .n) (λ q l. time-at s (e .head) q hq (low q l)))
           ∙ within (isCorrect g) (lastStart s (e .head)) (g .n) (g .tightness) (λ a l c. most a)
 
       confirmed : hasHead (getD (tookSets s) 3 0) (e .sender) ≡ took 3 (e .sender) s

@@ -26,12 +26,12 @@ use Rattle.sets.specs.Sets.{withHead}
 use Rattle.premises.specs.declared.Watch.{Watch}
 use Rattle.premises.specs.Drift.{leadOf, lagOf, lesserOf, staysSteady}
 use Rattle.premises.specs.Between.{watchAfter}
-use Rattle.premises.specs.Starts.{startPlace, timeAt, startHeardAt}
+use Rattle.premises.specs.Starts.{startPlace, startTime, startHeardAt}
 use Rattle.premises.specs.Frames.{receiversPlace, phaseHeard}
 use Rattle.sheet.specs.Bench.{table}
 use Rattle.sheet.proofs.Tables.{is-table}
 use Rattle.judge.specs.declared.pass.Seen.{Seen}
-use Rattle.judge.specs.Seen.{historyOf, tookSets, receiverSets, leastOf, leads, lags, votesOf, adjustsOf, seenOf, sendingEntries}
+use Rattle.judge.specs.Seen.{historyOf, tookSets, receiverSets, startTimes, leastOf, leads, lags, votesOf, adjustsOf, seenOf, sendingEntries}
 use Rattle.judge.proofs.Steady.{Until}
 use Rattle.judge.proofs.Heads.{Heads}
 use Rattle.judge.proofs.Moments.{same-history, Last, last-of, Moment, moment, run-length}
@@ -43,8 +43,7 @@ pub record Keeps (ws : List ℕ) (g : Setting) (i : ℕ) (took received started 
   pub is-run : runOf ws i ≡ ran past
   pub took-is : took ≡ tookSets past
   pub received-is : received ≡ receiverSets past
-  pub started-size : length started ≡ 257
-  pub started-is : (v q : ℕ) → v < 16 → q < 16 → timeAt started v q ≡ lastStart past v q
+  pub started-is : started ≡ startTimes past
   pub lead-is : lead ≡ leads g past
   pub lag-is : lag ≡ lags g past
   pub steady-is : steady ≡ premise2 g past
@@ -58,17 +57,16 @@ nobody : (n : ℕ) (f : ℕ → ℕ) → ((j : ℕ) → f j ≡ 0) → replicate
 nobody n f z = is-table f n 0 (replicate n 0) (length-replicate n 0) (λ j l. getD-replicate n j 0 0 l ∙ sym (z j))
 
 pub first-keeps : (ws : List ℕ) (g : Setting)
-    → Keeps ws g 0 (replicate 16 0) (replicate 4096 0) (replicate 257 0) (replicate 16 (pos (2 ^ 62))) (replicate 16 (pos (2 ^ 62))) true true
+    → Keeps ws g 0 (replicate 16 0) (replicate 4096 0) (replicate 256 0) (replicate 16 (pos (2 ^ 62))) (replicate 16 (pos (2 ^ 62))) true true
     (record { closed = false; «on_time» = true; quiet = true; heard = true }) (record { closed = false; «on_time» = true; quiet = true; heard = true })
-unfolding runOf receiverSets leastOf lastStart each quietBetween premise2 premise3 premise5 premise7
+unfolding runOf receiverSets startTimes leastOf lastStart each quietBetween premise2 premise3 premise5 premise7
 first-keeps ws g =
     record {
       past = [];
       is-run = refl;
       took-is = nobody 16 _ (λ j. refl);
       received-is = nobody 4096 _ (λ j. refl);
-      started-size = length-replicate {A = ℕ} 257 0;
-      started-is = λ v q hv hq. getD-replicate 257 (v * 16 + q) 0 0 (omega arith);
+      started-is = nobody 256 _ (λ j. refl);
       lead-is = is-table _ 16 (pos 0) (replicate 16 (pos (2 ^ 62))) (length-replicate 16 (pos (2 ^ 62))) (λ j l. getD-replicate 16 j (pos (2 ^ 62)) (pos 0) l);
       lag-is = is-table _ 16 (pos 0) (replicate 16 (pos (2 ^ 62))) (length-replicate 16 (pos (2 ^ 62))) (λ j l. getD-replicate 16 j (pos (2 ^ 62)) (pos 0) l);
       steady-is = refl;
@@ -149,8 +147,11 @@ steady-same : (drift : ℕ) (e : Entry) {c c′ : Bool} {q q′ : ℕ} {l l′ m
     → staysSteady c drift e (getD l q (pos 0)) (getD m q (pos 0)) ≡ staysSteady c′ drift e (getD l′ q′ (pos 0)) (getD m′ q′ (pos 0))
 steady-same drift e a b c d = rw (a, b, c, d) refl
 
-start-same : (g : Setting) (e : Entry) (started : List ℕ) {c c′ r r′ : ℕ} → c ≡ c′ → r ≡ r′ → startHeardAt g e c r started ≡ startHeardAt g e c′ r′ started
-start-same g e started a b = ap₂ (λ (c r : ℕ). startHeardAt g e c r started) a b
+start-same : (g : Setting) (e : Entry) {c c′ r r′ : ℕ} {l l′ : List ℕ} → c ≡ c′ → r ≡ r′ → l ≡ l′ → startHeardAt g e c r l ≡ startHeardAt g e c′ r′ l′
+start-same g e a b x = rw (a, b, x) refl
+
+time-same : (e : Entry) {l l′ : List ℕ} {j j′ : ℕ} → l ≡ l′ → j ≡ j′ → startTime e (getD l j 0) ≡ startTime e (getD l′ j′ 0)
+time-same e a b = ap₂ (λ (l : List ℕ) (j : ℕ). startTime e (getD l j 0)) a b
 
 phase-same : (g : Setting) (a : ℕ) {f f′ : Bool} {i i′ : ℕ} {x x′ y y′ z z′ : List ℕ} → f ≡ f′ → i ≡ i′ → x ≡ x′ → y ≡ y′ → z ≡ z′ → phaseHeard f g i x y z a ≡ phaseHeard f′ g i′ x′ y′ z′ a
 phase-same g a b c d e h = rw (b, c, d, e, h) refl
@@ -172,7 +173,7 @@ module _ (ws : List ℕ) (g : Setting) (count i : ℕ) (sending : List ℕ) (H :
     (took received started : List ℕ) (lead lag : List ℤ) (steady heard : Bool) (votes adjusts : Watch) (K : Keeps ws g i took received started lead lag steady heard votes adjusts)
     -- the entry, and what the functions that the turn calls answer, in the order of the calls
     (e : Entry) (correct : Bool) (q : ℕ) (stays : Bool) (up least-up down least-down : ℤ) (place : ℕ) (start-kept close votes-kept : Bool) (votes-after : Watch)
-    (end adjusts-kept : Bool) (adjusts-after : Watch) (a took-with r received-with t : ℕ)
+    (end adjusts-kept : Bool) (adjusts-after : Watch) (a took-with r received-with t time : ℕ)
     (e-is : e ≡ entryAt ws i) (correct-is : correct ≡ isCorrect g (e .head)) (q-is : q ≡ e .head % 16)
     (stays-is : stays ≡ staysSteady correct (g .drift) e (getD lead q (pos 0)) (getD lag q (pos 0)))
     (up-is : up ≡ leadOf (g .drift) e 0) (least-up-is : least-up ≡ lesserOf (getD lead q (pos 0)) up)
@@ -187,7 +188,7 @@ module _ (ws : List ℕ) (g : Setting) (count i : ℕ) (sending : List ℕ) (H :
     (adjusts-after-is : adjusts-after ≡ watchAfter adjusts (correct && eqb (e .action) 8) end adjusts-kept)
     (a-is : a ≡ e .action % 16) (took-with-is : took-with ≡ withHead (getD took a 0) (e .head))
     (r-is : r ≡ receiversPlace (e .action) (e .sender) (e .serial)) (received-with-is : received-with ≡ withHead (getD received r 0) (e .head))
-    (t-is : t ≡ startPlace e) where
+    (t-is : t ≡ startPlace e) (time-is : time ≡ startTime e (getD started t 0)) where
   abbrev s : History
   s = K .past
 
@@ -219,7 +220,7 @@ module _ (ws : List ℕ) (g : Setting) (count i : ℕ) (sending : List ℕ) (H :
       (adjusts-kept-is ∙ phase-same g 8 (ap₂ (λ (c : Bool) (w : Watch). c && not (w .closed)) (end-is ∙ takes 9) (K .adjusts-is)) (sym size) (K .took-is) (K .received-is) sending-is
       ∙ ap (λ (b : Bool). (correctTakes g 9 (record { entry = e; after = n .after; frame = n .frame }) && not (any (correctTakes g 9) s)) ⇒ b) (adjusts-heard H fit (n .valid) (n .earlier) short))
 
-  pub keeps-next : Keeps ws g (i + 1) (set took a took-with) (set received r received-with) (set started t (e .time .0)) (set lead q least-up) (set lag q least-down) (steady && stays) (heard && start-kept) votes-after adjusts-after
+  pub keeps-next : Keeps ws g (i + 1) (set took a took-with) (set received r received-with) (set started t time) (set lead q least-up) (set lag q least-down) (steady && stays) (heard && start-kept) votes-after adjusts-after
   keeps-next =
       record {
         past = record { entry = e; after = n .after; frame = n .frame } ∷ s;
@@ -227,15 +228,13 @@ module _ (ws : List ℕ) (g : Setting) (count i : ℕ) (sending : List ℕ) (H :
         took-is = set-same (K .took-is) a-is (took-with-is ∙ with-same (e .head) (K .took-is) a-is) ∙ took-next e (n .after) (n .frame) s (n .low .action) (n .low .head);
         received-is = set-same (K .received-is) r-is (received-with-is ∙ with-same (e .head) (K .received-is) r-is)
             ∙ receivers-next e (n .after) (n .frame) s (n .low .action) (n .low .sender) (n .low .serial) (n .low .head);
-        started-size = length-set started t (e .time .0) ∙ K .started-size;
-        started-is = subst (λ (j : ℕ). (v q : ℕ) → v < 16 → q < 16 → timeAt (set started j (e .time .0)) v q ≡ lastStart (record { entry = e; after = n .after; frame = n .frame } ∷ s) v q) (sym t-is)
-            (started-next e (n .after) (n .frame) s started (K .started-size) (n .low .head) (n .low .sender) (n .zero-serial) (K .started-is));
+        started-is = set-same (K .started-is) t-is (time-is ∙ time-same e (K .started-is) t-is) ∙ started-next e (n .after) (n .frame) s (n .low .head) (n .low .sender) (n .zero-serial);
         lead-is = set-same (K .lead-is) q-is (least-up-is ∙ lesser-same (K .lead-is) q-is up-is) ∙ least-next e (n .after) (n .frame) s (λ x. leadOf (g .drift) x 0) (n .low .head);
         lag-is = set-same (K .lag-is) q-is (least-down-is ∙ lesser-same (K .lag-is) q-is down-is) ∙ least-next e (n .after) (n .frame) s (λ x. lagOf (g .drift) x 0) (n .low .head);
         steady-is = ap₂ _&&_ (K .steady-is) (stays-is ∙ steady-same (g .drift) e correct-is q-is (K .lead-is) (K .lag-is))
             ∙ steady-next e (n .after) (n .frame) s g (n .low .head) (n .low .time) (n .low .reading) (n .until);
-        heard-is = ap₂ _&&_ (K .heard-is) (start-is ∙ start-same g e started (ap (λ (l : List ℕ). getD l 3 0) (K .took-is)) (ap₂ (λ (l : List ℕ) (j : ℕ). getD l j 0) (K .received-is) place-is))
-            ∙ heard-next e (n .after) (n .frame) s g H (n .low .head) (n .low .sender) started (K .started-is)
+        heard-is = ap₂ _&&_ (K .heard-is) (start-is ∙ start-same g e (ap (λ (l : List ℕ). getD l 3 0) (K .took-is)) (ap₂ (λ (l : List ℕ) (j : ℕ). getD l j 0) (K .received-is) place-is) (K .started-is))
+            ∙ heard-next e (n .after) (n .frame) s g H (n .low .head) (n .low .sender)
             (λ p. let z = start-until (e .time .0) s (e .head) p (n .until) in let y = n .low .time in omega arith);
         votes-is = votes-next;
         adjusts-is = adjusts-next;

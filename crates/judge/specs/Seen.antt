@@ -8,7 +8,7 @@ use Rattle.protocol.specs.declared.Setting.{Setting}
 use Rattle.protocol.specs.declared.Entry.{Entry}
 use Rattle.protocol.specs.Base.{_⇒_, any}
 use Rattle.protocol.specs.Run.{History, frameSent, isFrame, Run, stopped, ran, runOf}
-use Rattle.protocol.specs.Premises.{took, received, each, correctTakes, premise2, premise3, premise5, premise7, quietBetween}
+use Rattle.protocol.specs.Premises.{took, received, lastStart, each, correctTakes, premise2, premise3, premise5, premise7, quietBetween}
 use Rattle.sets.specs.Sets.{setOf}
 use Rattle.premises.specs.declared.Watch.{Watch}
 use Rattle.premises.specs.Drift.{leadOf, lagOf, lesserOf}
@@ -32,6 +32,10 @@ tookSets h = table (λ a. setOf (λ q. took a q h)) 0 16
 
 unfoldable pub receiverSets : History → List ℕ
 receiverSets h = table (λ j. setOf (λ q. received (j / 256) (j / 16 % 16) (j % 16) q h)) 0 4096
+
+-- by sender and head, the real time at which the sender's start last reached the head
+unfoldable pub startTimes : History → List ℕ
+startTimes h = table (λ j. lastStart h (j / 16) (j % 16)) 0 256
 
 -- by head, the least of a difference that each of its entries has; at first a number above any
 unfoldable pub leastOf : (Entry → ℤ) → History → ℕ → ℤ

@@ -15,6 +15,7 @@ use premises::phase_heard;
 use premises::receivers_place;
 use premises::start_heard;
 use premises::start_place;
+use premises::start_time;
 use premises::stays_steady;
 use premises::watch_after;
 use protocol::Frame;
@@ -84,7 +85,7 @@ pub fn watch(sheet: &[u32], g: Setting, count: usize, sending: &[usize]) -> Seen
 {
     let mut took = [0u16; 16];
     let mut received = [0u16; 4096];
-    let mut started = [0u32; 257];
+    let mut started = [0u32; 256];
     let mut leads = [NEVER; 16];
     let mut lags = [NEVER; 16];
     let mut steady = true;
@@ -113,7 +114,7 @@ pub fn watch(sheet: &[u32], g: Setting, count: usize, sending: &[usize]) -> Seen
         let r = receivers_place(e.action, e.sender, e.serial);
         received[r] = with_head(received[r], e.head);
         let t = start_place(e);
-        started[t] = e.time.0;
+        started[t] = start_time(e, started[t]);
         i += 1;
     }
     Seen {

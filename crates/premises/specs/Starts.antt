@@ -10,9 +10,13 @@ use Rattle.protocol.specs.declared.Entry.{Entry}
 use Rattle.protocol.specs.Words.{isCorrect}
 use Rattle.sets.specs.Sets.{hasHead, hasAll}
 
--- the place of the real time at which a start reached a head: sender × 16 + head; 256 for an entry that delivers none
+-- the place of the real time at which a start last reached a head: sender × 16 + head
 abbrev pub startPlace : Entry → ℕ
-startPlace e = cond (eqb (e .action) 2) (e .sender % 16 * 16 + e .head % 16) 256
+startPlace e = e .sender % 16 * 16 + e .head % 16
+
+-- "their last deliveries": each delivery takes the place of the one before it
+abbrev pub startTime : Entry → ℕ → ℕ
+startTime e kept = cond (eqb (e .action) 2) (e .time .0) kept
 
 abbrev pub timeAt : List ℕ → ℕ → ℕ → ℕ
 timeAt started v q = getD started (v * 16 + q) 0

@@ -15,6 +15,7 @@ use protocol::Setting;
 use sets::has_all;
 pub use starts::start_heard;
 pub use starts::start_place;
+pub use starts::start_time;
 use words::is_correct;
 ghost use mathlib.Core.Path.{_≡_};
 ghost use mathlib.Core.Bool.{cond};

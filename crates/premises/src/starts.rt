@@ -1,22 +1,25 @@
 // Premise 3, at the entry that confirms a start and at each that delivers one.
 ghost use mathlib.Core.Path.{_≡_};
 ghost use Prim.Native.Nat.{_<_};
-ghost use Rattle.premises.specs.Starts.{startPlace, earlierOf, laterOf, withinTightness, confirmHeard, startHeardAt, timeAt};
+ghost use Rattle.premises.specs.Starts.{startPlace, startTime, earlierOf, laterOf, withinTightness, confirmHeard, startHeardAt, timeAt};
 use protocol::Entry;
 use protocol::Setting;
 use sets::has_all;
 use sets::has_head;
 use words::is_correct;
 
-// The place of the real time at which a start reached a head: sender × 16 + head; 256 for an entry that delivers none.
+// The place of the real time at which a start last reached a head: sender × 16 + head.
 pub fn start_place(e: Entry) -> usize
-    ensures { λ j. ⌜ (j ≡ startPlace e) × (j < 257) ⌝ }
+    ensures { λ j. ⌜ (j ≡ startPlace e) × (j < 256) ⌝ }
 {
-    if e.action == 2 {
-        (e.sender % 16) as usize * 16 + (e.head % 16) as usize
-    } else {
-        256
-    }
+    (e.sender % 16) as usize * 16 + (e.head % 16) as usize
+}
+
+// "their last deliveries": each delivery takes the place of the one before it.
+pub fn start_time(e: Entry, kept: u32) -> u32
+    ensures { λ t. ⌜ t ≡ startTime e kept ⌝ }
+{
+    if e.action == 2 { e.time.0 } else { kept }
 }
 
 // When head v's start last reached head q.
@@ -77,6 +80,6 @@ pub fn start_heard(g: Setting, e: Entry, confirmed: u16, receivers: u16, started
     ensures { λ b. ⌜ b ≡ startHeardAt g e confirmed receivers (now (started .entry)) ⌝ }
 {
     let kept = confirm_heard(g, e, receivers, started);
-    let delivery = is_correct(g, e.head) & (e.action == 2);
-    kept & (!delivery | !has_head(confirmed, e.sender))
+    let correct = is_correct(g, e.head);
+    kept & (!(correct & (e.action == 2)) | !has_head(confirmed, e.sender))
 }

@@ -1,17 +1,16 @@
+use mathlib.Core.Path.{_≡_, refl, sym, _∙_, ap₂, subst}
+use mathlib.Core.Bool.{true, _&&_}
+use Prim.Native.Nat.{ℕ, _-_, _≤_}
+use lib.Dec.{eqb}
 use lib.IntN.{ℤ, pos}
-use lib.ListN.{getD}
+use lib.ListN.{length, getD, length-set, length-replicate}
+use denote.Ref.{now}
 use mir.Syntax.{w64}
 use mir.Val.{SFits, toZ, ofZ}
 use mir.Facts.{toZ-ofZ}
-use Rattle.premises.specs.Drift.{staysSteady, lesserOf}
-use mathlib.Core.Path.{_≡_, refl, sym, _∙_, ap, ap₂, subst}
-use mathlib.Core.Bool.{Bool, true, _&&_}
-use Prim.Native.Nat.{ℕ, _-_, _≤_}
-use lib.Dec.{eqb}
-use lib.ListN.{length, length-set, length-replicate}
-use denote.Ref.{now}
 use Rattle.protocol.specs.declared.Setting.{Setting}
 use Rattle.protocol.specs.Words.{headsFit}
+use Rattle.premises.specs.Drift.{staysSteady, lesserOf}
 use Rattle.judge.proofs.Heads.{Heads, heads-of}
 use Rattle.judge.proofs.Keeps.{Keeps, first-keeps, keeps-next, keeps-last}
 use native.Mathlib.Omega.{arith}
@@ -30,6 +29,7 @@ use Rattle.premises.proofs.phase_heard.Reads as phase-heard-reads
 use Rattle.premises.proofs.receivers_place.Reads as receivers-place-reads
 use Rattle.premises.proofs.start_heard.Reads as start-heard-reads
 use Rattle.premises.proofs.start_place.Reads as start-place-reads
+use Rattle.premises.proofs.start_time.Reads as start-time-reads
 use Rattle.premises.proofs.watch_after.Reads as watch-after-reads
 use Rattle.sets.proofs.with_head.Reads as with-head-reads
 use Rattle.words.proofs.entry_of.Reads as entry-of-reads
@@ -37,304 +37,319 @@ use Rattle.words.proofs.is_correct.Reads as is-correct-reads
 
 abbrev Inv-loop : tie.InvT-loop
 Inv-loop sheet g count sending took₀ received₀ started₀ leads₀ lags₀ steady₀ heard₀ votes₀ adjusts₀ i₀ took received started leads lags steady heard votes adjusts i =
-    (i ≤ count) × (length took ≡ 16) × (length received ≡ 4096) × (length started ≡ 257) × (length leads ≡ 16) × (length lags ≡ 16)
+    (i ≤ count) × (length took ≡ 16) × (length received ≡ 4096) × (length started ≡ 256) × (length leads ≡ 16) × (length lags ≡ 16)
     × Keeps sheet g i took received started leads lags steady heard votes adjusts
 
 abbrev μ-loop : tie.MeasureT-loop
 μ-loop sheet g count sending took₀ received₀ started₀ leads₀ lags₀ steady₀ heard₀ votes₀ adjusts₀ i₀ took received started leads lags steady heard votes adjusts i =
     count - i
 
--- src/pass.rt:67:9
+-- src/pass.rt:93:9
 unwatched-requires : tie.Need-unwatched-requires Inv-loop μ-loop
 unwatched-requires c κs = search needs
 
--- src/pass.rt:68:9
+-- src/pass.rt:94:9
 unwatched-requires-2 : tie.Need-unwatched-requires-2 Inv-loop μ-loop
 unwatched-requires-2 c κs = search needs
 
--- src/pass.rt:70:5
+-- src/pass.rt:96:5
 loop-holds : tie.Need-loop-holds Inv-loop μ-loop
 loop-holds c =
     let first = first-keeps (now (c .before .before .before .before .args .sheet)) (c .before .before .before .before .args .g) in
-    (omega arith, refl, length-replicate {A = ℕ} 4096 0, length-replicate {A = ℕ} 257 0, refl, refl, rw (c .before .unwatched .ensures, c .unwatched2 .ensures) first)
+    (omega arith, refl, length-replicate {A = ℕ} 4096 0, length-replicate {A = ℕ} 256 0, refl, refl, rw (c .before .unwatched .ensures, c .unwatched2 .ensures) first)
 
--- src/pass.rt:71:22
+-- src/pass.rt:97:22
 mul-at : tie.Need-mul-at Inv-loop μ-loop
 mul-at c = search needs
 
--- src/pass.rt:71:18
+-- src/pass.rt:97:18
 add-at : tie.Need-add-at Inv-loop μ-loop
 add-at c = search needs
 
--- src/pass.rt:72:26
+-- src/pass.rt:98:26
 mul-entry-of : tie.Need-mul-entry-of Inv-loop μ-loop
 mul-entry-of c = search needs
 
--- src/pass.rt:72:26
+-- src/pass.rt:98:26
 shared-slice-read-entry-of : tie.Need-shared-slice-read-entry-of Inv-loop μ-loop
 shared-slice-read-entry-of c = search needs
 
--- src/pass.rt:72:43
+-- src/pass.rt:98:43
 add-entry-of : tie.Need-add-entry-of Inv-loop μ-loop
 add-entry-of c = search needs
 
--- src/pass.rt:72:37
+-- src/pass.rt:98:37
 mul-entry-of-2 : tie.Need-mul-entry-of-2 Inv-loop μ-loop
 mul-entry-of-2 c = search needs
 
--- src/pass.rt:72:37
+-- src/pass.rt:98:37
 shared-slice-read-entry-of-2 : tie.Need-shared-slice-read-entry-of-2 Inv-loop μ-loop
 shared-slice-read-entry-of-2 c = search needs
 
--- src/pass.rt:72:58
+-- src/pass.rt:98:58
 add-entry-of-2 : tie.Need-add-entry-of-2 Inv-loop μ-loop
 add-entry-of-2 c = search needs
 
--- src/pass.rt:72:52
+-- src/pass.rt:98:52
 mul-entry-of-3 : tie.Need-mul-entry-of-3 Inv-loop μ-loop
 mul-entry-of-3 c = search needs
 
--- src/pass.rt:72:52
+-- src/pass.rt:98:52
 shared-slice-read-entry-of-3 : tie.Need-shared-slice-read-entry-of-3 Inv-loop μ-loop
 shared-slice-read-entry-of-3 c = search needs
 
--- src/pass.rt:72:13
+-- src/pass.rt:98:13
 entry-of-requires : tie.Need-entry-of-requires Inv-loop μ-loop
 entry-of-requires c κs = search needs
 
--- src/pass.rt:73:13
+-- src/pass.rt:99:13
 is-correct-requires : tie.Need-is-correct-requires Inv-loop μ-loop
 is-correct-requires c κs = search needs
 
--- src/pass.rt:74:13
+-- src/pass.rt:100:13
 seat-requires : tie.Need-seat-requires Inv-loop μ-loop
 seat-requires c κs = search needs
 
--- src/pass.rt:75:61
+-- src/pass.rt:101:61
 mul-stays-steady : tie.Need-mul-stays-steady Inv-loop μ-loop
 mul-stays-steady c = search needs
 
--- src/pass.rt:75:61
+-- src/pass.rt:101:61
 array-copy-out-stays-steady : tie.Need-array-copy-out-stays-steady Inv-loop μ-loop
 array-copy-out-stays-steady c = search needs
 
--- src/pass.rt:75:71
+-- src/pass.rt:101:71
 mul-stays-steady-2 : tie.Need-mul-stays-steady-2 Inv-loop μ-loop
 mul-stays-steady-2 c = search needs
 
--- src/pass.rt:75:71
+-- src/pass.rt:101:71
 array-copy-out-stays-steady-2 : tie.Need-array-copy-out-stays-steady-2 Inv-loop μ-loop
 array-copy-out-stays-steady-2 c = search needs
 
--- src/pass.rt:75:27
+-- src/pass.rt:101:27
 stays-steady-requires : tie.Need-stays-steady-requires Inv-loop μ-loop
 stays-steady-requires c κs = search needs
 
--- src/pass.rt:76:27
+-- src/pass.rt:102:27
 mul-lesser : tie.Need-mul-lesser Inv-loop μ-loop
 mul-lesser c = search needs
 
--- src/pass.rt:76:27
+-- src/pass.rt:102:27
 array-copy-out-lesser : tie.Need-array-copy-out-lesser Inv-loop μ-loop
 array-copy-out-lesser c = search needs
 
--- src/pass.rt:76:37
+-- src/pass.rt:102:37
 lead-requires : tie.Need-lead-requires Inv-loop μ-loop
 lead-requires c κs = search needs
 
--- src/pass.rt:76:20
+-- src/pass.rt:102:20
 lesser-requires : tie.Need-lesser-requires Inv-loop μ-loop
 lesser-requires c κs = search needs
 
--- src/pass.rt:76:9
+-- src/pass.rt:102:9
 mul-leads : tie.Need-mul-leads Inv-loop μ-loop
 mul-leads c = search needs
 
--- src/pass.rt:76:9
+-- src/pass.rt:102:9
 array-set-from-leads : tie.Need-array-set-from-leads Inv-loop μ-loop
 array-set-from-leads c = search needs
 
--- src/pass.rt:77:26
+-- src/pass.rt:103:26
 mul-lesser-2 : tie.Need-mul-lesser-2 Inv-loop μ-loop
 mul-lesser-2 c = search needs
 
--- src/pass.rt:77:26
+-- src/pass.rt:103:26
 array-copy-out-lesser-2 : tie.Need-array-copy-out-lesser-2 Inv-loop μ-loop
 array-copy-out-lesser-2 c = search needs
 
--- src/pass.rt:77:35
+-- src/pass.rt:103:35
 lag-requires : tie.Need-lag-requires Inv-loop μ-loop
 lag-requires c κs = search needs
 
--- src/pass.rt:77:19
+-- src/pass.rt:103:19
 lesser-requires-2 : tie.Need-lesser-requires-2 Inv-loop μ-loop
 lesser-requires-2 c κs = search needs
 
--- src/pass.rt:77:9
+-- src/pass.rt:103:9
 mul-lags : tie.Need-mul-lags Inv-loop μ-loop
 mul-lags c = search needs
 
--- src/pass.rt:77:9
+-- src/pass.rt:103:9
 array-set-from-lags : tie.Need-array-set-from-lags Inv-loop μ-loop
 array-set-from-lags c = search needs
 
--- src/pass.rt:78:13
+-- src/pass.rt:104:13
 receivers-place-requires : tie.Need-receivers-place-requires Inv-loop μ-loop
 receivers-place-requires c κs = search needs
 
--- src/pass.rt:79:43
+-- src/pass.rt:105:43
 array-read-start-heard : tie.Need-array-read-start-heard Inv-loop μ-loop
 array-read-start-heard c = search needs
 
--- src/pass.rt:79:52
+-- src/pass.rt:105:52
 mul-start-heard : tie.Need-mul-start-heard Inv-loop μ-loop
 mul-start-heard c = search needs
 
--- src/pass.rt:79:52
+-- src/pass.rt:105:52
 array-read-start-heard-2 : tie.Need-array-read-start-heard-2 Inv-loop μ-loop
 array-read-start-heard-2 c = search needs
 
--- src/pass.rt:79:65
+-- src/pass.rt:105:65
 slice-aggregate-start-heard : tie.Need-slice-aggregate-start-heard Inv-loop μ-loop
 slice-aggregate-start-heard c = sym (c .before .before .before .before .before .before .before .before .before .before .before .before .before .before .before .before .before .before .loop .inv .3)
 
--- src/pass.rt:79:25
+-- src/pass.rt:105:25
 start-heard-requires : tie.Need-start-heard-requires Inv-loop μ-loop
 start-heard-requires c κs = search needs
 
--- src/pass.rt:81:61
+-- src/pass.rt:107:61
 slice-aggregate-phase-heard : tie.Need-slice-aggregate-phase-heard Inv-loop μ-loop
 slice-aggregate-phase-heard c = sym (c .before .before .before .before .before .before .before .before .before .before .before .before .before .before .before .before .before .before .before .before .before .before .loop .inv .1)
 
--- src/pass.rt:81:68
+-- src/pass.rt:107:68
 slice-aggregate-phase-heard-2 : tie.Need-slice-aggregate-phase-heard-2 Inv-loop μ-loop
 slice-aggregate-phase-heard-2 c = sym (c .before .before .before .before .before .before .before .before .before .before .before .before .before .before .before .before .before .before .before .before .before .before .before .loop .inv .2)
 
--- src/pass.rt:81:13
+-- src/pass.rt:107:13
 phase-heard-requires : tie.Need-phase-heard-requires Inv-loop μ-loop
 phase-heard-requires c κs = search needs
 
--- src/pass.rt:82:9
+-- src/pass.rt:108:9
 watch-after-requires : tie.Need-watch-after-requires Inv-loop μ-loop
 watch-after-requires c κs = search needs
 
--- src/pass.rt:84:61
+-- src/pass.rt:110:61
 slice-aggregate-phase-heard-3 : tie.Need-slice-aggregate-phase-heard-3 Inv-loop μ-loop
 slice-aggregate-phase-heard-3 c = sym (c .before .before .before .before .before .before .before .before .before .before .before .before .before .before .before .before .before .before .before .before .before .before .before .before .before .before .before .before .before .loop .inv .1)
 
--- src/pass.rt:84:68
+-- src/pass.rt:110:68
 slice-aggregate-phase-heard-4 : tie.Need-slice-aggregate-phase-heard-4 Inv-loop μ-loop
 slice-aggregate-phase-heard-4 c = sym (c .before .before .before .before .before .before .before .before .before .before .before .before .before .before .before .before .before .before .before .before .before .before .before .before .before .before .before .before .before .before .loop .inv .2)
 
--- src/pass.rt:84:13
+-- src/pass.rt:110:13
 phase-heard-requires-2 : tie.Need-phase-heard-requires-2 Inv-loop μ-loop
 phase-heard-requires-2 c κs = search needs
 
--- src/pass.rt:85:9
+-- src/pass.rt:111:9
 watch-after-requires-2 : tie.Need-watch-after-requires-2 Inv-loop μ-loop
 watch-after-requires-2 c κs = search needs
 
--- src/pass.rt:86:13
+-- src/pass.rt:112:13
 seat-requires-2 : tie.Need-seat-requires-2 Inv-loop μ-loop
 seat-requires-2 c κs = search needs
 
--- src/pass.rt:87:29
+-- src/pass.rt:113:29
 mul-with-head : tie.Need-mul-with-head Inv-loop μ-loop
 mul-with-head c = search needs
 
--- src/pass.rt:87:29
+-- src/pass.rt:113:29
 array-read-with-head : tie.Need-array-read-with-head Inv-loop μ-loop
 array-read-with-head c = search needs
 
--- src/pass.rt:87:19
+-- src/pass.rt:113:19
 with-head-requires : tie.Need-with-head-requires Inv-loop μ-loop
 with-head-requires c κs = search needs
 
--- src/pass.rt:87:9
+-- src/pass.rt:113:9
 mul-took : tie.Need-mul-took Inv-loop μ-loop
 mul-took c = search needs
 
--- src/pass.rt:87:9
+-- src/pass.rt:113:9
 array-write-took : tie.Need-array-write-took Inv-loop μ-loop
 array-write-took c = search needs
 
--- src/pass.rt:88:13
+-- src/pass.rt:114:13
 receivers-place-requires-2 : tie.Need-receivers-place-requires-2 Inv-loop μ-loop
 receivers-place-requires-2 c κs = search needs
 
--- src/pass.rt:89:33
+-- src/pass.rt:115:33
 mul-with-head-2 : tie.Need-mul-with-head-2 Inv-loop μ-loop
 mul-with-head-2 c = record { fits = omega (arith, c .receivers-place2 .ensures .1) }
 
--- src/pass.rt:89:33
+-- src/pass.rt:115:33
 array-read-with-head-2 : tie.Need-array-read-with-head-2 Inv-loop μ-loop
 array-read-with-head-2 c = search needs
 
--- src/pass.rt:89:23
+-- src/pass.rt:115:23
 with-head-requires-2 : tie.Need-with-head-requires-2 Inv-loop μ-loop
 with-head-requires-2 c κs = search needs
 
--- src/pass.rt:89:9
+-- src/pass.rt:115:9
 mul-received : tie.Need-mul-received Inv-loop μ-loop
 mul-received c = record { fits = omega (arith, c .before .receivers-place2 .ensures .1) }
 
--- src/pass.rt:89:9
+-- src/pass.rt:115:9
 array-write-received : tie.Need-array-write-received Inv-loop μ-loop
 array-write-received c = search needs
 
--- src/pass.rt:90:13
+-- src/pass.rt:116:13
 start-place-requires : tie.Need-start-place-requires Inv-loop μ-loop
 start-place-requires c κs = search needs
 
--- src/pass.rt:91:9
-mul-started : tie.Need-mul-started Inv-loop μ-loop
-mul-started c = record { fits = omega (arith, c .start-place .ensures .1) }
+-- src/pass.rt:117:36
+mul-start-time : tie.Need-mul-start-time Inv-loop μ-loop
+mul-start-time c = record { fits = omega (arith, c .start-place .ensures .1) }
 
--- src/pass.rt:91:9
+-- src/pass.rt:117:36
+array-read-start-time : tie.Need-array-read-start-time Inv-loop μ-loop
+array-read-start-time c = search needs
+
+-- src/pass.rt:117:22
+start-time-requires : tie.Need-start-time-requires Inv-loop μ-loop
+start-time-requires c κs = search needs
+
+-- src/pass.rt:117:9
+mul-started : tie.Need-mul-started Inv-loop μ-loop
+mul-started c = record { fits = omega (arith, c .before .start-place .ensures .1) }
+
+-- src/pass.rt:117:9
 array-write-started : tie.Need-array-write-started Inv-loop μ-loop
 array-write-started c = search needs
 
--- src/pass.rt:92:9
+-- src/pass.rt:118:9
 add-i : tie.Need-add-i Inv-loop μ-loop
-add-i c = omega (arith, c .before .before .before .before .before .before .before .before .before .before .before .before .before .before .before .before .before .before .before .before .before .before .before .before .before .before .before .before .before .before .before .before .before .before .before .before .before .loop-test .taken, c .before .before .before .before .before .before .before .before .before .before .before .before .before .before .before .before .before .before .before .before .before .before .before .before .before .before .before .before .before .before .before .before .before .before .before .before .before .before .before .before .before .before .before .pre)
+add-i c = omega (arith, c .before .before .before .before .before .before .before .before .before .before .before .before .before .before .before .before .before .before .before .before .before .before .before .before .before .before .before .before .before .before .before .before .before .before .before .before .before .before .loop-test .taken, c .before .before .before .before .before .before .before .before .before .before .before .before .before .before .before .before .before .before .before .before .before .before .before .before .before .before .before .before .before .before .before .before .before .before .before .before .before .before .before .before .before .before .before .before .pre)
 
--- src/pass.rt:70:5
+-- src/pass.rt:96:5
 loop-less : tie.Need-loop-less Inv-loop μ-loop
-loop-less c = omega (arith, c .before .before .before .before .before .before .before .before .before .before .before .before .before .before .before .before .before .before .before .before .before .before .before .before .before .before .before .before .before .before .before .before .before .before .before .before .before .loop-test .taken)
+loop-less c = omega (arith, c .before .before .before .before .before .before .before .before .before .before .before .before .before .before .before .before .before .before .before .before .before .before .before .before .before .before .before .before .before .before .before .before .before .before .before .before .before .before .loop-test .taken)
 
--- src/pass.rt:70:5
+-- src/pass.rt:96:5
 loop-again : tie.Need-loop-again Inv-loop μ-loop
 loop-again c =
-    let A = c .before .before .before .before .before .before .before .before .before .before .before .before .before .before .before .before .before .before .before .before .before .before .before .before .before .before .before .before .before .before .before .before .before .before .before .before .before .before .before .before .before .before .before .args in
-    let Q = c .before .before .before .before .before .before .before .before .before .before .before .before .before .before .before .before .before .before .before .before .before .before .before .before .before .before .before .before .before .before .before .before .before .before .before .before .before .before .before .before .before .before .before .pre in
-    let L = c .before .before .before .before .before .before .before .before .before .before .before .before .before .before .before .before .before .before .before .before .before .before .before .before .before .before .before .before .before .before .before .before .before .before .before .before .before .before .loop in
+    let c10 = c .before .before .before .before .before .before .before .before .before .before in
+    let c20 = c10 .before .before .before .before .before .before .before .before .before .before in
+    let c30 = c20 .before .before .before .before .before .before .before .before .before .before in
+    let c40 = c30 .before .before .before .before .before .before .before .before .before .before in
+    let A = c40 .before .before .before .before .args in
+    let Q = c40 .before .before .before .before .pre in
+    let L = c30 .before .before .before .before .before .before .before .before .before .loop in
     let H : Heads (A .g) = subst Heads (sym (Q .4)) (heads-of (now (A .sheet)) (Q .2) (subst (λ (x : Setting). headsFit (x .n) (x .f) ≡ true) (Q .4) (Q .3))) in
     let few : A .count ≤ 4096 = omega (arith, Q .0, Q .1) in
-    let fits-lead : SFits w64 (getD (L .leads) (c .before .before .before .before .before .before .before .before .before .before .before .before .before .before .before .before .before .before .before .before .before .before .before .before .before .before .before .before .before .before .before .seat .result) (pos 0)) = record { sfits = c .before .before .before .before .before .before .before .before .before .before .before .before .before .before .before .before .before .before .before .before .before .before .before .before .before .before .before .before .before .before .stays-steady-arg .given } in
-    let fits-lag : SFits w64 (getD (L .lags) (c .before .before .before .before .before .before .before .before .before .before .before .before .before .before .before .before .before .before .before .before .before .before .before .before .before .before .before .before .before .before .before .seat .result) (pos 0)) = record { sfits = c .before .before .before .before .before .before .before .before .before .before .before .before .before .before .before .before .before .before .before .before .before .before .before .before .before .before .before .before .before .stays-steady-arg2 .given } in
-    let stays = c .before .before .before .before .before .before .before .before .before .before .before .before .before .before .before .before .before .before .before .before .before .before .before .before .before .before .before .before .stays-steady .ensures ∙ ap₂ (λ (x y : ℤ). staysSteady (c .before .before .before .before .before .before .before .before .before .before .before .before .before .before .before .before .before .before .before .before .before .before .before .before .before .before .before .before .before .before .before .before .is-correct .result) (A .g .drift) (c .before .before .before .before .before .before .before .before .before .before .before .before .before .before .before .before .before .before .before .before .before .before .before .before .before .before .before .before .before .before .before .before .before .entry-of .result) x y) (toZ-ofZ {w = w64} fits-lead) (toZ-ofZ {w = w64} fits-lag) in
-    let least-lead = toZ-ofZ {w = w64} (record { sfits = c .before .before .before .before .before .before .before .before .before .before .before .before .before .before .before .before .before .before .before .before .before .before .before .before .before .lesser .ok }) ∙ c .before .before .before .before .before .before .before .before .before .before .before .before .before .before .before .before .before .before .before .before .before .before .before .before .before .lesser .ensures ∙ ap₂ lesserOf (toZ-ofZ {w = w64} fits-lead) (toZ-ofZ {w = w64} (record { sfits = c .before .before .before .before .before .before .before .before .before .before .before .before .before .before .before .before .before .before .before .before .before .before .before .before .before .before .lead .ok })) in
-    let least-lag = toZ-ofZ {w = w64} (record { sfits = c .before .before .before .before .before .before .before .before .before .before .before .before .before .before .before .before .before .before .before .before .before .before .lesser2 .ok }) ∙ c .before .before .before .before .before .before .before .before .before .before .before .before .before .before .before .before .before .before .before .before .before .before .lesser2 .ensures ∙ ap₂ lesserOf (toZ-ofZ {w = w64} fits-lag) (toZ-ofZ {w = w64} (record { sfits = c .before .before .before .before .before .before .before .before .before .before .before .before .before .before .before .before .before .before .before .before .before .before .before .lag .ok })) in
+    let fits-lead : SFits w64 (getD (L .leads) (c30 .before .before .seat .result) (pos 0)) = record { sfits = c30 .before .stays-steady-arg .given } in
+    let fits-lag : SFits w64 (getD (L .lags) (c30 .before .before .seat .result) (pos 0)) = record { sfits = c30 .stays-steady-arg2 .given } in
+    let stays = c20 .before .before .before .before .before .before .before .before .before .stays-steady .ensures ∙ ap₂ (λ (x y : ℤ). staysSteady (c30 .before .before .before .is-correct .result) (A .g .drift) (c30 .before .before .before .before .entry-of .result) x y) (toZ-ofZ {w = w64} fits-lead) (toZ-ofZ {w = w64} fits-lag) in
+    let least-lead = toZ-ofZ {w = w64} (record { sfits = c20 .before .before .before .before .before .before .lesser .ok }) ∙ c20 .before .before .before .before .before .before .lesser .ensures ∙ ap₂ lesserOf (toZ-ofZ {w = w64} fits-lead) (toZ-ofZ {w = w64} (record { sfits = c20 .before .before .before .before .before .before .before .lead .ok })) in
+    let least-lag = toZ-ofZ {w = w64} (record { sfits = c20 .before .before .before .lesser2 .ok }) ∙ c20 .before .before .before .lesser2 .ensures ∙ ap₂ lesserOf (toZ-ofZ {w = w64} fits-lag) (toZ-ofZ {w = w64} (record { sfits = c20 .before .before .before .before .lag .ok })) in
     let next = keeps-next (now (A .sheet)) (A .g) (A .count) (L .i) (now (A .sending)) H
-    (Q .3) (Q .4) (Q .5) (Q .6) few (c .before .before .before .before .before .before .before .before .before .before .before .before .before .before .before .before .before .before .before .before .before .before .before .before .before .before .before .before .before .before .before .before .before .before .before .before .before .loop-test .taken)
+    (Q .3) (Q .4) (Q .5) (Q .6) few (c30 .before .before .before .before .before .before .before .before .loop-test .taken)
     (L .took) (L .received) (L .started) (L .leads) (L .lags) (L .steady)
-    (L .heard) (L .votes) (L .adjusts) (L .inv .6) (c .before .before .before .before .before .before .before .before .before .before .before .before .before .before .before .before .before .before .before .before .before .before .before .before .before .before .before .before .before .before .before .before .before .entry-of .result) (c .before .before .before .before .before .before .before .before .before .before .before .before .before .before .before .before .before .before .before .before .before .before .before .before .before .before .before .before .before .before .before .before .is-correct .result)
-    (c .before .before .before .before .before .before .before .before .before .before .before .before .before .before .before .before .before .before .before .before .before .before .before .before .before .before .before .before .before .before .before .seat .result) (c .before .before .before .before .before .before .before .before .before .before .before .before .before .before .before .before .before .before .before .before .before .before .before .before .before .before .before .before .stays-steady .result) (c .before .before .before .before .before .before .before .before .before .before .before .before .before .before .before .before .before .before .before .before .before .before .before .before .before .before .lead .result) (toZ w64 (ofZ w64 (c .before .before .before .before .before .before .before .before .before .before .before .before .before .before .before .before .before .before .before .before .before .before .before .before .before .lesser .result))) (c .before .before .before .before .before .before .before .before .before .before .before .before .before .before .before .before .before .before .before .before .before .before .before .lag .result) (toZ w64 (ofZ w64 (c .before .before .before .before .before .before .before .before .before .before .before .before .before .before .before .before .before .before .before .before .before .before .lesser2 .result)))
-    (c .before .before .before .before .before .before .before .before .before .before .before .before .before .before .before .before .before .before .before .before .before .receivers-place .result) (c .before .before .before .before .before .before .before .before .before .before .before .before .before .before .before .before .before .before .before .start-heard .result) (c .before .before .before .before .before .before .before .before .before .before .before .before .before .before .before .before .before .before .before .before .before .before .before .before .before .before .before .before .before .before .before .before .is-correct .result && eqb (c .before .before .before .before .before .before .before .before .before .before .before .before .before .before .before .before .before .before .before .before .before .before .before .before .before .before .before .before .before .before .before .before .before .entry-of .result .action) 6) (c .before .before .before .before .before .before .before .before .before .before .before .before .before .before .phase-heard .result) (c .before .before .before .before .before .before .before .before .before .before .before .before .watch-after .result) (c .before .before .before .before .before .before .before .before .before .before .before .before .before .before .before .before .before .before .before .before .before .before .before .before .before .before .before .before .before .before .before .before .is-correct .result && eqb (c .before .before .before .before .before .before .before .before .before .before .before .before .before .before .before .before .before .before .before .before .before .before .before .before .before .before .before .before .before .before .before .before .before .entry-of .result .action) 9)
-    (c .before .before .before .before .before .before .before .phase-heard2 .result) (c .before .before .before .before .before .watch-after2 .result) (c .before .before .before .before .seat2 .result) (c .before .before .before .with-head .result) (c .before .before .receivers-place2 .result) (c .before .with-head2 .result)
-    (c .start-place .result) (c .before .before .before .before .before .before .before .before .before .before .before .before .before .before .before .before .before .before .before .before .before .before .before .before .before .before .before .before .before .before .before .before .before .entry-of .ensures) (c .before .before .before .before .before .before .before .before .before .before .before .before .before .before .before .before .before .before .before .before .before .before .before .before .before .before .before .before .before .before .before .before .is-correct .ensures) (c .before .before .before .before .before .before .before .before .before .before .before .before .before .before .before .before .before .before .before .before .before .before .before .before .before .before .before .before .before .before .before .seat .ensures) stays (c .before .before .before .before .before .before .before .before .before .before .before .before .before .before .before .before .before .before .before .before .before .before .before .before .before .before .lead .ensures)
-    least-lead (c .before .before .before .before .before .before .before .before .before .before .before .before .before .before .before .before .before .before .before .before .before .before .before .lag .ensures) least-lag (c .before .before .before .before .before .before .before .before .before .before .before .before .before .before .before .before .before .before .before .before .before .receivers-place .ensures .0) (c .before .before .before .before .before .before .before .before .before .before .before .before .before .before .before .before .before .before .before .start-heard .ensures) refl
-    (c .before .before .before .before .before .before .before .before .before .before .before .before .before .before .phase-heard .ensures) (c .before .before .before .before .before .before .before .before .before .before .before .before .watch-after .ensures) refl (c .before .before .before .before .before .before .before .phase-heard2 .ensures) (c .before .before .before .before .before .watch-after2 .ensures) (c .before .before .before .before .seat2 .ensures)
-    (c .before .before .before .with-head .ensures) (c .before .before .receivers-place2 .ensures .0) (c .before .with-head2 .ensures) (c .start-place .ensures .0) in
-    (omega (arith, c .before .before .before .before .before .before .before .before .before .before .before .before .before .before .before .before .before .before .before .before .before .before .before .before .before .before .before .before .before .before .before .before .before .before .before .before .before .loop-test .taken), simp length-set (L .inv .1), simp length-set (L .inv .2), simp length-set (L .inv .3), simp length-set (L .inv .4), simp length-set (L .inv .5), next)
+    (L .heard) (L .votes) (L .adjusts) (L .inv .6) (c30 .before .before .before .before .entry-of .result) (c30 .before .before .before .is-correct .result)
+    (c30 .before .before .seat .result) (c20 .before .before .before .before .before .before .before .before .before .stays-steady .result) (c20 .before .before .before .before .before .before .before .lead .result) (toZ w64 (ofZ w64 (c20 .before .before .before .before .before .before .lesser .result))) (c20 .before .before .before .before .lag .result) (toZ w64 (ofZ w64 (c20 .before .before .before .lesser2 .result)))
+    (c20 .before .before .receivers-place .result) (c20 .start-heard .result) (c30 .before .before .before .is-correct .result && eqb (c30 .before .before .before .before .entry-of .result .action) 6) (c10 .before .before .before .before .before .phase-heard .result) (c10 .before .before .before .watch-after .result) (c30 .before .before .before .is-correct .result && eqb (c30 .before .before .before .before .entry-of .result .action) 9)
+    (c .before .before .before .before .before .before .before .before .phase-heard2 .result) (c .before .before .before .before .before .before .watch-after2 .result) (c .before .before .before .before .before .seat2 .result) (c .before .before .before .before .with-head .result) (c .before .before .before .receivers-place2 .result) (c .before .before .with-head2 .result)
+    (c .before .start-place .result) (c .start-time .result) (c30 .before .before .before .before .entry-of .ensures) (c30 .before .before .before .is-correct .ensures) (c30 .before .before .seat .ensures) stays
+    (c20 .before .before .before .before .before .before .before .lead .ensures) least-lead (c20 .before .before .before .before .lag .ensures) least-lag (c20 .before .before .receivers-place .ensures .0) (c20 .start-heard .ensures)
+    refl (c10 .before .before .before .before .before .phase-heard .ensures) (c10 .before .before .before .watch-after .ensures) refl (c .before .before .before .before .before .before .before .before .phase-heard2 .ensures) (c .before .before .before .before .before .before .watch-after2 .ensures)
+    (c .before .before .before .before .before .seat2 .ensures) (c .before .before .before .before .with-head .ensures) (c .before .before .before .receivers-place2 .ensures .0) (c .before .before .with-head2 .ensures) (c .before .start-place .ensures .0) (c .start-time .ensures) in
+    (omega (arith, c30 .before .before .before .before .before .before .before .before .loop-test .taken), simp length-set (L .inv .1), simp length-set (L .inv .2), simp length-set (L .inv .3), simp length-set (L .inv .4), simp length-set (L .inv .5), next)
 
--- src/pass.rt:56:1
+-- src/pass.rt:82:1
 returns : tie.Need-returns Inv-loop μ-loop
 returns c =
     let A = c .before .before .before .before .before .before .args in
-    let Q = c .before .before .before .before .before .before .pre in
     let L = c .before .loop in
-    keeps-last (now (A .sheet)) (A .g) (L .i) (A .count) (L .took) (L .received) (L .started) (L .leads) (L .lags) (L .steady) (L .heard) (L .votes) (L .adjusts) (L .inv .6) (L .inv .0) (c .loop-test .left) (Q .5)
+    keeps-last (now (A .sheet)) (A .g) (L .i) (A .count) (L .took) (L .received) (L .started) (L .leads) (L .lags) (L .steady) (L .heard) (L .votes) (L .adjusts) (L .inv .6) (L .inv .0) (c .loop-test .left) (c .before .before .before .before .before .before .pre .5)
 
 pub watch-spec : {M : Type 1} → statement M
 watch-spec =
@@ -402,6 +417,9 @@ watch-spec =
     mul-received
     array-write-received
     start-place-requires
+    mul-start-time
+    array-read-start-time
+    start-time-requires
     mul-started
     array-write-started
     add-i
