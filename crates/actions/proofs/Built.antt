@@ -36,15 +36,14 @@ use Rattle.changes.specs.declared.State.{State}
 use Rattle.changes.specs.declared.Message.{Message}
 use Rattle.changes.specs.declared.Message.the-variants.{NoMessage, StartMessage, VoteMessage, AdjustMessage}
 use Rattle.changes.specs.declared.Change.{Change}
-use Rattle.changes.specs.Changes.{withMarks, withPhases, saying, quiet, waits, leading, startDelivered, voteTurn, voteDelivered, adjustTurn, adjustDelivered, changeOf, senderOf, votedFor, keepOwn, chooseByte, voteAfter, adjustAfter, adjustmentAfter, frameOf}
+use Rattle.changes.specs.Changes.{withMarks, withPhases, saying, quiet, waits, leading, startDelivered, voteTurn, voteDelivered, adjustTurn, adjustDelivered, changeOf, senderOf, votedFor, keepOwn, chooseByte, voteAfter, adjustAfter, adjustmentAfter, stateAfter, frameOf}
 use Rattle.actions.specs.declared.admit.Admission.{Admission}
-use Rattle.actions.specs.Actions.{stateOf, marksIn, stateFits, numbersFit, verdictOf, admittedBy, admissionOf, countedOf, takeFitting}
+use Rattle.actions.specs.Actions.{stateOf, marksIn, stateFits, numbersFit, verdictOf, openVerdict, admittedBy, admissionOf, countedOf, saidOf, recordWith, takeFitting}
 
 -- WHAT THE CODE BUILDS
 
--- the record of a small part and a list of what is kept by sender
-abbrev pub recordFrom : HeadRecord → State → List Sender → HeadRecord
-recordFrom r b l = record { n = r .n; f = r .f; own = b .own; last = b .last; started = b .started; confirmed = b .confirmed; vote = b .vote; adjust = b .adjust; adjustment = b .adjustment; senders = l }
+abbrev recordFrom : HeadRecord → State → List Sender → HeadRecord
+recordFrom r b l = recordWith (r .n) (r .f) b l
 
 -- what message s leaves, c being the place of the head that is voted for and j the head's own
 abbrev pub finish : HeadRecord → Verdict → State → List Sender → Message → ℕ → ℕ → Stepped
@@ -68,7 +67,7 @@ finish r v b l s c j =
     }
 
 abbrev pub sending : HeadRecord → ℕ → Change → Message
-sending r i d = cond (d .counts) (countedOf (withSender r i (d .kept)) (d .message)) (d .message)
+sending r i d = saidOf (withSender r i (d .kept)) d
 
 abbrev pub builtBy : HeadRecord → Verdict → ℕ → Change → Stepped
 builtBy r v i d = finish r v (d .state) (set (r .senders) i (d .kept)) (sending r i d) (votedFor (r .own) (sending r i d) % 16) (r .own % 16)
@@ -175,7 +174,7 @@ module _ (r : HeadRecord) (x : Reading) (fits : stateFits (r .n) (stateOf r (r .
       sayable-cond r (waits (b .vote)) {d = saying b e (VoteMessage (b .own)) true} {e = quiet b e}
       (plain b e (VoteMessage (b .own)) true o v w (let z = own-fits in omega arith)) (mild b e o v w)
 
-  sayable : (e : Sender) (a : Action) → numbersFit a ≡ true → Sendable r (changeOf now e a)
+  pub sayable : (e : Sender) (a : Action) → numbersFit a ≡ true → Sendable r (changeOf now e a)
   unfolding startDelivered voteTurn voteDelivered adjustTurn adjustDelivered numbersFit
   sayable e Look f = mild now e refl refl refl
   sayable e StartSent f = plain (withMarks now true (r .confirmed)) e StartMessage false refl refl refl own-fits
@@ -327,7 +326,7 @@ built-accepted r x a f g =
     ∙ built-sends r p _ o (sayable r x f (getD (r .senders) p noSender) a g) ∙ change-effect r x a
 
 pub built-takes : (r : HeadRecord) (x : Reading) (sent : Bool) (a : Action) → built r (admissionOf (r .n) (stateOf r (r .last)) x sent a) ≡ takeFitting r x sent a
-unfolding admissionOf verdictOf takeFitting takeAction
+unfolding admissionOf verdictOf openVerdict takeFitting takeAction
 built-takes r x sent a =
     go (stateFits (r .n) b) refl (numbersFit a) refl (ltb (x .0) (r .last .0)) (not sent || closedBy (marksIn b) (r .own) a)
     ∙ ap (λ (t : Bool). cond (stateFits (r .n) b) (cond (numbersFit a) (cond (ltb (x .0) (r .last .0)) (refused r ReadingFell)
@@ -345,9 +344,25 @@ built-takes r x sent a =
     go true e true h false true = built-refused r ActionClosed
     go true e true h false false = built-accepted r x a e h
 
+-- of what fits, it is takeAction
+pub fitting : (r : HeadRecord) (x : Reading) (sent : Bool) (a : Action) → stateFits (r .n) (stateOf r (r .last)) ≡ true → numbersFit a ≡ true → takeFitting r x sent a ≡ takeAction r x sent a
+unfolding takeFitting
+fitting r x sent a f g = rw (f, g) refl
+
+open-fits : (n : ℕ) (b : State) (x : Reading) (sent : Bool) (a : Action) → stateFits n b ≡ true → numbersFit a ≡ true → verdictOf n b x sent a ≡ openVerdict b x sent a
+unfolding verdictOf
+open-fits n b x sent a f g = rw (f, g) refl
+
+pub built-open : (r : HeadRecord) (x : Reading) (sent : Bool) (a : Action) → stateFits (r .n) (stateOf r (r .last)) ≡ true → numbersFit a ≡ true
+    → built r (admittedBy (openVerdict (stateOf r (r .last)) x sent a) (stateOf r (r .last)) x a) ≡ takeAction r x sent a
+unfolding admissionOf
+built-open r x sent a f g =
+    ap (λ (v : Verdict). built r (admittedBy v (stateOf r (r .last)) x a)) (sym (open-fits (r .n) (stateOf r (r .last)) x sent a f g))
+    ∙ built-takes r x sent a ∙ fitting r x sent a f g
+
 pub counts-fit : (n : ℕ) (b : State) (x : Reading) (sent : Bool) (a : Action) (e : Sender)
     → changeOf (admissionOf n b x sent a .state) e (admissionOf n b x sent a .action) .counts ≡ true → n ≤ 16
-unfolding admissionOf verdictOf stateFits
+unfolding admissionOf verdictOf openVerdict stateFits
 counts-fit n b x sent a e h =
     cases (leb n 16) (leb-true n 16) (λ t. absurd-bool (rw t at h) refl)
 
@@ -358,7 +373,7 @@ sending-when r i d s (inr (t, e)) = rw t e
 
 -- the code's steps one by one
 pub whole : (r : HeadRecord) (x : Reading) (sent : Bool) (a : Action) (m : Admission) (p i : ℕ) (d : Change) (s : Message) (u c j : ℕ) (k : Sender)
-    (z : Reading) (v w : Phase) (y : Reading) (f : Frame)
+    (b : State) (f : Frame)
     → m ≡ admissionOf (r .n) (stateOf r (r .last)) x sent a
     → p ≡ senderOf (r .own) (m .action)
     → i ≡ p % 16
@@ -368,10 +383,7 @@ pub whole : (r : HeadRecord) (x : Reading) (sent : Bool) (a : Action) (m : Admis
     → c ≡ u % 16
     → j ≡ r .own % 16
     → k ≡ keepOwn (getD (set (r .senders) i (d .kept)) j noSender) s (getD (set (r .senders) i (d .kept)) c noSender .start)
-    → z ≡ d .state .last
-    → v ≡ voteAfter (d .state) s
-    → w ≡ adjustAfter (d .state) s
-    → y ≡ adjustmentAfter (d .state) s
+    → b ≡ stateAfter (d .state) s
     → f ≡ frameOf (d .state) s (getD (set (r .senders) i (d .kept)) c noSender .start)
     → _≡_ {A = Stepped}
     (record {
@@ -381,16 +393,16 @@ pub whole : (r : HeadRecord) (x : Reading) (sent : Bool) (a : Action) (m : Admis
             n = r .n;
             f = r .f;
             own = r .own;
-            last = z;
-            started = d .state .started;
-            confirmed = d .state .confirmed;
-            vote = v;
-            adjust = w;
-            adjustment = y;
+            last = b .last;
+            started = b .started;
+            confirmed = b .confirmed;
+            vote = b .vote;
+            adjust = b .adjust;
+            adjustment = b .adjustment;
             senders = set (set (r .senders) i (d .kept)) j k;
           };
       frame = f;
     })
     (takeFitting r x sent a)
-whole r x sent a m p i d s u c j k z v w y f em ep ei ed es eu ec ej ek ez ev ew ey ef =
-    rw (ef, ey, ew, ev, ez, ek, ej, ec, eu, es, ed, ei, ep, em) (built-takes r x sent a)
+whole r x sent a m p i d s u c j k b f em ep ei ed es eu ec ej ek eb ef =
+    rw (ef, eb, ek, ej, ec, eu, es, ed, ei, ep, em) (built-takes r x sent a)

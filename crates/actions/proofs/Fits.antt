@@ -1,5 +1,5 @@
 -- A record in its ranges fits the code (`range-fits`): there takeFitting is takeAction (`take-fitting`).
-use mathlib.Core.Path.{_≡_, refl}
+use mathlib.Core.Path.{_≡_}
 use mathlib.Core.Bool.{Bool, true, _||_}
 use Prim.Native.Nat.{ℕ, _+_, _≤_, _<_}
 use native.Mathlib.Omega.{arith}
@@ -14,6 +14,7 @@ use Rattle.protocol.specs.Words.{isTime, headsFit}
 use Rattle.protocol.specs.Record.{isNumber, sentInRange, phaseInRange, recordInRange}
 use Rattle.protocol.specs.Step.{takeAction}
 use Rattle.protocol.proofs.Tests.{and-left, and-right, and-both}
+use Rattle.actions.proofs.Built.{fitting}
 use Rattle.actions.specs.Actions.{stateOf, stateFits, numbersFit, takeFitting}
 
 sent-le : (n : ℕ) (c : OptNumber) (k : ℕ) → n ≤ 16 → sentInRange n c k ≡ true → k < 255
@@ -54,5 +55,4 @@ module _ (r : HeadRecord) (e : recordInRange r ≡ true) where
       (and-both (lt-ltb (r .own) 16 (let o = own-below in omega arith)) (and-both (lt-ltb (r .vote .sent) 255 v) (lt-ltb (r .adjust .sent) 255 w)))
 
   pub take-fitting : (x : Reading) (sent : Bool) (a : Action) → numbersFit a ≡ true → takeFitting r x sent a ≡ takeAction r x sent a
-  unfolding takeFitting
-  take-fitting x sent a f = rw (range-fits, f) refl
+  take-fitting x sent a f = fitting r x sent a range-fits f

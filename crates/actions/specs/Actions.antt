@@ -1,10 +1,12 @@
 -- An action as the code takes it: first whether the record and the action fit its arrays and its bytes, then takeAction.
+use mathlib.Core.List.{List}
 use mathlib.Core.Bool.{Bool, true, cond, not, _&&_, _||_}
 use Prim.Native.Nat.{ℕ}
 use lib.Dec.{ltb, leb}
 use lib.ListN.{length}
 use Rattle.protocol.specs.declared.Reading.{Reading}
 use Rattle.protocol.specs.declared.HeadRecord.{HeadRecord}
+use Rattle.protocol.specs.declared.Sender.{Sender}
 use Rattle.protocol.specs.declared.Cause.the-variants.{BadEntry, ReadingFell, ActionClosed, BadRecord}
 use Rattle.protocol.specs.declared.Verdict.{Verdict}
 use Rattle.protocol.specs.declared.Verdict.the-variants.{Accepted, Refused}
@@ -19,12 +21,17 @@ use Rattle.closed.specs.Closed.{closedBy}
 use Rattle.changes.specs.declared.State.{State}
 use Rattle.changes.specs.declared.Message.{Message}
 use Rattle.changes.specs.declared.Message.the-variants.{NoMessage, StartMessage, VoteMessage, AdjustMessage}
+use Rattle.changes.specs.declared.Change.{Change}
 use Rattle.changes.specs.Changes.{stateFrom}
 use Rattle.actions.specs.declared.admit.Admission.{Admission}
 
 -- a record less n, f and what it keeps by sender, with reading y as the last reading
 abbrev pub stateOf : HeadRecord → Reading → State
 stateOf r y = stateFrom (r .own) y (r .started) (r .confirmed) (r .vote) (r .adjust) (r .adjustment)
+
+-- the record of a small part and of what is kept by sender
+abbrev pub recordWith : ℕ → ℕ → State → List Sender → HeadRecord
+recordWith n f b l = record { n = n; f = f; own = b .own; last = b .last; started = b .started; confirmed = b .confirmed; vote = b .vote; adjust = b .adjust; adjustment = b .adjustment; senders = l }
 
 abbrev pub marksIn : State → Marks
 marksIn b =
@@ -55,14 +62,15 @@ numbersFit AdjustTurn = true
 numbersFit (AdjustDelivered p k c x) = ltb p 16
 numbersFit AdjustClose = true
 
+-- causes 8 and 9
+unfoldable pub openVerdict : State → Reading → Bool → Action → Verdict
+openVerdict b x sent a =
+    cond (ltb (x .0) (b .last .0)) (Refused ReadingFell)
+    (cond (not sent || closedBy (marksIn b) (b .own) a) (Refused ActionClosed) Accepted)
+
 unfoldable pub verdictOf : ℕ → State → Reading → Bool → Action → Verdict
 verdictOf n b x sent a =
-    cond (stateFits n b)
-    (cond (numbersFit a)
-    (cond (ltb (x .0) (b .last .0)) (Refused ReadingFell)
-    (cond (not sent || closedBy (marksIn b) (b .own) a) (Refused ActionClosed) Accepted))
-    (Refused BadEntry))
-    (Refused BadRecord)
+    cond (stateFits n b) (cond (numbersFit a) (openVerdict b x sent a) (Refused BadEntry)) (Refused BadRecord)
 
 -- a refused action is a look at the last reading
 abbrev pub withReading : State → Reading → State
@@ -81,6 +89,9 @@ countedOf r NoMessage = NoMessage
 countedOf r StartMessage = StartMessage
 countedOf r (VoteMessage c) = cond (ltb (r .f) (startsHeld r)) (VoteMessage c) NoMessage
 countedOf r (AdjustMessage c x) = cond (leb 1 (length (voteReadings r (r .n)))) (AdjustMessage c (reading (median (voteReadings r (r .n))))) NoMessage
+
+abbrev pub saidOf : HeadRecord → Change → Message
+saidOf r d = cond (d .counts) (countedOf r (d .message)) (d .message)
 
 -- takeAction, of what fits
 unfoldable pub takeFitting : HeadRecord → Reading → Bool → Action → Stepped

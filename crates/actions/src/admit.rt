@@ -1,16 +1,16 @@
 // Whether an action is taken.
 use changes::State;
-use changes::is_number;
 use closed::Marks;
 use closed::is_closed;
 use protocol::Action;
 use protocol::Cause;
 use protocol::Reading;
 use protocol::Verdict;
+use values::is_number;
 ghost use mathlib.Core.Path.{_≡_};
 ghost use mathlib.Core.Bool.{not, _||_};
 ghost use Rattle.closed.specs.Closed.{closedBy};
-ghost use Rattle.actions.specs.Actions.{stateFits, numbersFit, marksIn, verdictOf, admissionOf};
+ghost use Rattle.actions.specs.Actions.{stateFits, numbersFit, marksIn, openVerdict, verdictOf, withReading, admissionOf};
 
 // The verdict on an action, and what is then done: a refused action is a look at the last reading.
 pub struct Admission {
@@ -67,18 +67,25 @@ fn is_shut(sent: bool, b: State, a: Action) -> bool
     !sent || is_closed(marks_in(b), b.own, a)
 }
 
+// Causes 8 and 9.
+pub fn open_verdict(b: State, x: Reading, sent: bool, a: Action) -> Verdict
+    ensures { λ v. ⌜ v ≡ openVerdict b x sent a ⌝ }
+{
+    if x.0 < b.last.0 {
+        return Verdict::Refused(Cause::ReadingFell);
+    }
+    if is_shut(sent, b, a) {
+        return Verdict::Refused(Cause::ActionClosed);
+    }
+    Verdict::Accepted
+}
+
 fn verdict_of(n: u8, b: State, x: Reading, sent: bool, a: Action) -> Verdict
     ensures { λ v. ⌜ v ≡ verdictOf n b x sent a ⌝ }
 {
     if state_fits(n, b) {
         if numbers_fit(a) {
-            if x.0 < b.last.0 {
-                return Verdict::Refused(Cause::ReadingFell);
-            }
-            if is_shut(sent, b, a) {
-                return Verdict::Refused(Cause::ActionClosed);
-            }
-            Verdict::Accepted
+            open_verdict(b, x, sent, a)
         } else {
             Verdict::Refused(Cause::BadEntry)
         }
@@ -87,20 +94,25 @@ fn verdict_of(n: u8, b: State, x: Reading, sent: bool, a: Action) -> Verdict
     }
 }
 
+// "Every accepted action makes its reading the last reading"
+pub fn with_reading(b: State, x: Reading) -> State
+    ensures { λ t. ⌜ t ≡ withReading b x ⌝ }
+{
+    let mut t = b;
+    t.last = x;
+    t
+}
+
 pub fn admit_action(n: u8, b: State, x: Reading, sent: bool, a: Action) -> Admission
     ensures { λ m. ⌜ m ≡ admissionOf n b x sent a ⌝ }
 {
     let v = verdict_of(n, b, x, sent, a);
     match v {
-        Verdict::Accepted => {
-            let mut t = b;
-            t.last = x;
-            Admission {
-                verdict: v,
-                state: t,
-                action: a,
-            }
-        }
+        Verdict::Accepted => Admission {
+            verdict: v,
+            state: with_reading(b, x),
+            action: a,
+        },
         Verdict::Refused(_) => Admission {
             verdict: v,
             state: b,

@@ -1,12 +1,15 @@
 // What a head says once it has counted its readings.
+use changes::Change;
 use changes::Message;
+use changes::State;
 use median::starts_held;
 use median::vote_median;
 use median::votes_held;
 use protocol::HeadRecord;
+use protocol::Sender;
 ghost use mathlib.Core.Path.{_≡_};
 ghost use Prim.Native.Nat.{_≤_};
-ghost use Rattle.actions.specs.Actions.{countedOf};
+ghost use Rattle.actions.specs.Actions.{countedOf, recordWith, saidOf};
 
 // A vote needs more than f start readings, an adjust at least one vote reading, of which it takes the median.
 pub fn count_first(r: HeadRecord, s: Message) -> Message
@@ -31,4 +34,35 @@ pub fn count_first(r: HeadRecord, s: Message) -> Message
             }
         }
     }
+}
+
+// The record of a small part and of what is kept by sender.
+pub fn record_with(n: u8, f: u8, b: State, senders: [Sender; 16]) -> HeadRecord
+    ensures { λ r. ⌜ r ≡ recordWith n f b senders ⌝ }
+{
+    let last = b.last;
+    let vote = b.vote;
+    let adjust = b.adjust;
+    let adjustment = b.adjustment;
+    HeadRecord {
+        n,
+        f,
+        own: b.own,
+        last,
+        started: b.started,
+        confirmed: b.confirmed,
+        vote,
+        adjust,
+        adjustment,
+        senders,
+    }
+}
+
+// What a head says at change d, of which record r has the sender's part already.
+pub fn said(r: HeadRecord, d: Change) -> Message
+    requires { ⌜ r .n ≤ 16 ⌝ }
+    ensures { λ s. ⌜ s ≡ saidOf r d ⌝ }
+{
+    let s = d.message;
+    if d.counts { count_first(r, s) } else { s }
 }

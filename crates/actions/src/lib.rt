@@ -3,17 +3,18 @@ mod admit;
 mod count;
 
 use admit::admit_action;
+pub use admit::open_verdict;
+pub use admit::with_reading;
 use changes::act;
-use changes::adjust_after;
-use changes::adjustment_after;
 use changes::frame_of;
 use changes::keep_own;
-use changes::last_of;
 use changes::sender_of;
+use changes::state_after;
 use changes::unstarted;
-use changes::vote_after;
 use changes::voted_for;
 use count::count_first;
+pub use count::record_with;
+pub use count::said;
 use protocol::Action;
 use protocol::HeadRecord;
 use protocol::Reading;
@@ -22,8 +23,8 @@ ghost use mathlib.Core.Path.{_≡_};
 ghost use Prim.Native.Nat.{_%_};
 ghost use Rattle.actions.specs.Actions.{takeFitting};
 
-// The place of sender p.
-fn seat(p: u8) -> usize
+// The place of head p in an array by head.
+pub fn seat(p: u8) -> usize
     ensures { λ i. ⌜ i ≡ p % 16 ⌝ }
 {
     (p % 16) as usize
@@ -53,15 +54,19 @@ pub fn take_action(r: HeadRecord, x: Reading, sent: bool, a: Action) -> Stepped
     let e = t.senders[c];
     let j = seat(t.own);
     t.senders[j] = keep_own(t.senders[j], s, e);
-    let b = d.state;
-    t.last = last_of(b);
+    let b = state_after(d.state, s);
+    let last = b.last;
+    t.last = last;
     t.started = b.started;
     t.confirmed = b.confirmed;
-    t.vote = vote_after(b, s);
-    t.adjust = adjust_after(b, s);
-    t.adjustment = adjustment_after(b, s);
+    let vote = b.vote;
+    t.vote = vote;
+    let adjust = b.adjust;
+    t.adjust = adjust;
+    let adjustment = b.adjustment;
+    t.adjustment = adjustment;
     let verdict = m.verdict;
-    let frame = frame_of(b, s, e);
+    let frame = frame_of(d.state, s, e);
     Stepped {
         verdict,
         after: t,

@@ -10,8 +10,8 @@ use protocol::HeadRecord;
 use protocol::Input;
 use protocol::Stepped;
 use protocol::Verdict;
+use words::heads_fit;
 ghost use mathlib.Core.Path.{_≡_};
-ghost use Rattle.protocol.specs.Words.{headsFit};
 ghost use Rattle.protocol.specs.Step.{step};
 ghost use Rattle.board.specs.Board.{answerOf, seatVerdict, seated};
 
@@ -49,13 +49,6 @@ pub fn board_step(r: &mut HeadRecord, i: Input) -> Answer
     let s = step(*r, i);
     *r = after_of(s);
     answer_of(s)
-}
-
-fn heads_fit(n: u8, f: u8) -> bool
-    ensures { λ b. ⌜ b ≡ headsFit n f ⌝ }
-{
-    let two = 2 * (f as u32) + 1;
-    2 <= n && (n <= 16 && two <= n as u32)
 }
 
 // Cause 3 if n or f is against the first word's rules, 6 if own is not below n.

@@ -12,14 +12,14 @@ use protocol::Cause;
 use protocol::Frame;
 use protocol::HeadRecord;
 use protocol::Input;
-use protocol::OptNumber;
 use protocol::OptReading;
 use protocol::Stepped;
 use protocol::Verdict;
 use ranges::record_in_range;
+use values::number_or_0;
+use values::reading_or_0;
 ghost use mathlib.Core.Path.{_≡_};
 ghost use lib.IntN.{subℕ};
-ghost use Rattle.protocol.specs.Record.{numberOr0, readingOr0};
 ghost use Rattle.board.specs.Numbers.{correctionIfAdopted, frameNumbers, inputIn, resultNumbers, rowsAfter, rowsStep, rowsVerdict, seatIn, verdictNumber, voteNumbers};
 
 pub fn verdict_number(v: Verdict) -> u32
@@ -90,24 +90,6 @@ pub fn rows_after(rows: [[u32; 4]; 20], s: Stepped) -> [[u32; 4]; 20]
     }
 }
 
-fn reading_or_0(x: OptReading) -> u32
-    ensures { λ k. ⌜ k ≡ readingOr0 x ⌝ }
-{
-    match x {
-        OptReading::NoReading => 0,
-        OptReading::SomeReading(t) => t.0,
-    }
-}
-
-fn number_or_0(x: OptNumber) -> u32
-    ensures { λ k. ⌜ k ≡ numberOr0 x ⌝ }
-{
-    match x {
-        OptNumber::NoNumber => 0,
-        OptNumber::SomeNumber(k) => k as u32,
-    }
-}
-
 fn vote_numbers(k: u8, c: u8, x: OptReading) -> [u32; 5]
     ensures { λ l. ⌜ l ≡ voteNumbers k c x ⌝ }
 {
@@ -150,8 +132,8 @@ pub fn result_numbers(r: HeadRecord) -> [u32; 5]
     let c = v.choice;
     let a = w.choice;
     if o == 2 {
-        let candidate = number_or_0(c);
-        let adjuster = number_or_0(a);
+        let candidate = number_or_0(c) as u32;
+        let adjuster = number_or_0(a) as u32;
         let start = reading_or_0(chosen_start(r));
         [2, candidate, adjuster, r.adjustment.0, start]
     } else {

@@ -89,7 +89,13 @@ senderOf own AdjustTurn = own
 senderOf own (AdjustDelivered p k c x) = p
 senderOf own AdjustClose = own
 
--- what is sending
+-- what is sending; only a vote or an adjust leaves anything in the record
+abbrev pub speaks : Message → Bool
+speaks NoMessage = false
+speaks StartMessage = false
+speaks (VoteMessage c) = true
+speaks (AdjustMessage c x) = true
+
 abbrev pub votedFor : ℕ → Message → ℕ
 votedFor own NoMessage = own
 votedFor own StartMessage = own
@@ -123,6 +129,9 @@ adjustmentAfter b NoMessage = b .adjustment
 adjustmentAfter b StartMessage = b .adjustment
 adjustmentAfter b (VoteMessage c) = b .adjustment
 adjustmentAfter b (AdjustMessage c z) = z
+
+abbrev pub stateAfter : State → Message → State
+stateAfter b s = stateFrom (b .own) (b .last) (b .started) (b .confirmed) (voteAfter b s) (adjustAfter b s) (adjustmentAfter b s)
 
 abbrev pub frameOf : State → Message → OptReading → Frame
 frameOf b NoMessage x = NoFrame

@@ -9,7 +9,19 @@ use protocol::Reading;
 use protocol::Sender;
 ghost use mathlib.Core.Path.{_≡_};
 ghost use Rattle.protocol.specs.Step.{withVoteReading};
-ghost use Rattle.changes.specs.Changes.{votedFor, keepOwn, chooseByte, voteAfter, adjustAfter, adjustmentAfter, frameOf};
+ghost use Rattle.changes.specs.Changes.{speaks, votedFor, keepOwn, chooseByte, voteAfter, adjustAfter, adjustmentAfter, stateAfter, frameOf};
+
+// Whether a message is a vote or an adjust: no other leaves anything in the record.
+pub fn speaks(s: Message) -> bool
+    ensures { λ t. ⌜ t ≡ speaks s ⌝ }
+{
+    match s {
+        Message::NoMessage => false,
+        Message::StartMessage => false,
+        Message::VoteMessage(_) => true,
+        Message::AdjustMessage(_, _) => true,
+    }
+}
 
 // The head that is voted for; else the head itself.
 pub fn voted_for(own: u8, s: Message) -> u8
@@ -62,14 +74,7 @@ fn choose(c: u8, p: Phase) -> Phase
     }
 }
 
-// The small part of a record after message s, part by part.
-pub fn last_of(b: State) -> Reading
-    ensures { λ x. ⌜ x ≡ b .last ⌝ }
-{
-    b.last
-}
-
-pub fn vote_after(b: State, s: Message) -> Phase
+fn vote_after(b: State, s: Message) -> Phase
     ensures { λ p. ⌜ p ≡ voteAfter b s ⌝ }
 {
     let v = b.vote;
@@ -81,7 +86,7 @@ pub fn vote_after(b: State, s: Message) -> Phase
     }
 }
 
-pub fn adjust_after(b: State, s: Message) -> Phase
+fn adjust_after(b: State, s: Message) -> Phase
     ensures { λ p. ⌜ p ≡ adjustAfter b s ⌝ }
 {
     let w = b.adjust;
@@ -93,7 +98,7 @@ pub fn adjust_after(b: State, s: Message) -> Phase
     }
 }
 
-pub fn adjustment_after(b: State, s: Message) -> Reading
+fn adjustment_after(b: State, s: Message) -> Reading
     ensures { λ x. ⌜ x ≡ adjustmentAfter b s ⌝ }
 {
     let y = b.adjustment;
@@ -103,6 +108,17 @@ pub fn adjustment_after(b: State, s: Message) -> Reading
         Message::VoteMessage(_) => y,
         Message::AdjustMessage(_, x) => x,
     }
+}
+
+// The small part of a record after message s.
+pub fn state_after(b: State, s: Message) -> State
+    ensures { λ t. ⌜ t ≡ stateAfter b s ⌝ }
+{
+    let mut t = b;
+    t.vote = vote_after(b, s);
+    t.adjust = adjust_after(b, s);
+    t.adjustment = adjustment_after(b, s);
+    t
 }
 
 // A vote for c, which carries x.

@@ -7,20 +7,12 @@ use protocol::OptReading;
 use protocol::Phase;
 use protocol::Reading;
 use protocol::Sender;
+use values::is_number;
 ghost use mathlib.Core.Path.{_≡_};
 ghost use mathlib.Core.Bool.{not, _&&_, _||_};
 ghost use Rattle.protocol.specs.Record.{isNumber};
 ghost use Rattle.protocol.specs.Step.{isAbove, outranks, withStart, withVoteReading, withVoted, withAdjusted};
 ghost use Rattle.changes.specs.Changes.{quiet, saying, waits, leading, startDelivered, voteDelivered, adjustDelivered, voteTurn, adjustTurn};
-
-pub fn is_number(k: OptNumber) -> bool
-    ensures { λ b. ⌜ b ≡ isNumber k ⌝ }
-{
-    match k {
-        OptNumber::NoNumber => false,
-        OptNumber::SomeNumber(_) => true,
-    }
-}
 
 // Whether serial k is above the last one taken.
 pub fn is_above(k: u8, last: OptNumber) -> bool

@@ -1,18 +1,15 @@
 -- What an entry asks, by its action's number.
-use mathlib.Core.Path.{_≡_, refl, sym, _∙_, ap, ap₂}
+use mathlib.Core.Path.{_≡_, refl, _∙_, ap}
 use mathlib.Core.Bool.{cond, not}
-use mathlib.Core.Logic.{_≢_}
-use Prim.Native.Nat.{ℕ, zero, suc, _≤_}
-use native.Mathlib.Omega.{arith}
-use lib.ListN.{getD, List·getD-eq-default}
+use Prim.Native.Nat.{ℕ}
 use Rattle.protocol.specs.declared.Entry.{Entry}
 use Rattle.protocol.specs.declared.Frame.{Frame}
 use Rattle.protocol.specs.declared.Reading.{Reading}
 use Rattle.protocol.specs.declared.OptReading.{OptReading}
 use Rattle.protocol.specs.declared.OptReading.the-variants.{NoReading, SomeReading}
-use Rattle.protocol.specs.declared.Action.the-variants.{Look, StartDelivered, VoteDelivered, AdjustDelivered}
+use Rattle.protocol.specs.declared.Action.the-variants.{StartDelivered, VoteDelivered, AdjustDelivered}
 use Rattle.protocol.specs.Record.{isReading, reading, readingOr0}
-use Rattle.protocol.specs.Step.{actionsOf, actionOf}
+use Rattle.protocol.specs.Step.{actionOf}
 use Rattle.protocol.specs.Run.{carriedChoice, carriedReading, inputOf}
 
 carried-back : (x : OptReading) → x ≡ cond (not (isReading x)) NoReading (SomeReading (reading (readingOr0 x)))

@@ -1,19 +1,19 @@
-// One entry of a sheet: what it asks of its head, and the head's answer.
+// One entry of a sheet: what it asks of its head, and the verdict on it.
 ghost use mathlib.Core.Path.{_≡_};
 ghost use mathlib.Core.Bool.{not, _||_};
 ghost use Rattle.protocol.specs.Words.{hasSender};
 ghost use Rattle.protocol.specs.Record.{readingOr0};
 ghost use Rattle.protocol.specs.Step.{actionOf};
 ghost use Rattle.protocol.specs.Run.{isFrame, carriedChoice, carriedReading, inputOf};
-ghost use Rattle.entries.specs.Entries.{deliveredFrame, stepWith};
+ghost use Rattle.entries.specs.Entries.{deliveredFrame, entryVerdict};
+use actions::open_verdict;
+use changes::State;
 use protocol::Action;
 use protocol::Cause;
 use protocol::Entry;
 use protocol::Frame;
-use protocol::HeadRecord;
 use protocol::OptReading;
 use protocol::Reading;
-use protocol::Stepped;
 use protocol::Verdict;
 use words::has_sender;
 use words::has_serial;
@@ -102,26 +102,19 @@ fn was_sent(a: u8, x: Frame) -> bool
     !has_sender(a) || is_frame(x)
 }
 
-// "entry by entry 6 to 9": the answer of the head with record r to an entry that delivers x, after one at real time t.
-pub fn step_with(t: u32, r: HeadRecord, x: Frame, fits: bool, e: Entry) -> Stepped
-    ensures { λ s. ⌜ s ≡ stepWith t r x fits e ⌝ }
+// "entry by entry 6 to 9": the verdict on an entry that delivers x and so asks a of the head with state b, after one at
+// real time t.
+pub fn entry_verdict(t: u32, b: State, x: Frame, fits: bool, e: Entry, a: Action) -> Verdict
+    ensures { λ v. ⌜ v ≡ entryVerdict t b x fits e a ⌝ }
 {
     if fits {
         if e.time.0 < t {
-            Stepped {
-                verdict: Verdict::Refused(Cause::TimeFell),
-                after: r,
-                frame: Frame::NoFrame,
-            }
+            Verdict::Refused(Cause::TimeFell)
         } else {
             let reading = e.reading;
-            actions::take_action(r, reading, was_sent(e.action, x), asked(e, x))
+            open_verdict(b, reading, was_sent(e.action, x), a)
         }
     } else {
-        Stepped {
-            verdict: Verdict::Refused(Cause::BadEntry),
-            after: r,
-            frame: Frame::NoFrame,
-        }
+        Verdict::Refused(Cause::BadEntry)
     }
 }

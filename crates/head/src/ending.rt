@@ -1,12 +1,13 @@
 // How a round ends for a head.
-use changes::is_number;
 use protocol::HeadRecord;
 use protocol::OptNumber;
 use protocol::OptReading;
 use protocol::Sender;
+use values::is_number;
+use values::is_reading;
 ghost use mathlib.Core.Path.{_≡_};
 ghost use lib.ListN.{getD};
-ghost use Rattle.protocol.specs.Record.{chosenStart, isReading, noSender, outcome};
+ghost use Rattle.protocol.specs.Record.{chosenStart, noSender, outcome};
 
 fn start_at(senders: [Sender; 16], p: u8) -> OptReading
     ensures { λ x. ⌜ x ≡ getD senders p noSender .start ⌝ }
@@ -30,15 +31,6 @@ pub fn chosen_start(r: HeadRecord) -> OptReading
     match c {
         OptNumber::NoNumber => OptReading::NoReading,
         OptNumber::SomeNumber(p) => start_at(senders, p),
-    }
-}
-
-fn is_reading(k: OptReading) -> bool
-    ensures { λ b. ⌜ b ≡ isReading k ⌝ }
-{
-    match k {
-        OptReading::NoReading => false,
-        OptReading::SomeReading(_) => true,
     }
 }
 

@@ -3,19 +3,14 @@ use protocol::Action;
 use protocol::Input;
 use protocol::OptReading;
 use protocol::Reading;
+use words::is_time;
 ghost use mathlib.Core.Path.{_≡_};
 ghost use mathlib.Core.Bool.{not, cond, _&&_, _||_};
 ghost use Prim.Native.Nat.{_<_};
 ghost use lib.Dec.{eqb};
-ghost use Rattle.protocol.specs.Words.{isTime, hasSerial, hasSender, zeroWhereUnused};
+ghost use Rattle.protocol.specs.Words.{hasSerial, hasSender, zeroWhereUnused};
 ghost use Rattle.protocol.specs.Record.{reading};
 ghost use Rattle.protocol.specs.Step.{inputFits, actionOf};
-
-fn is_time(t: u32) -> bool
-    ensures { λ b. ⌜ b ≡ isTime t ⌝ }
-{
-    t < 268435456
-}
 
 fn has_serial(a: u32) -> bool
     ensures { λ b. ⌜ b ≡ hasSerial a ⌝ }

@@ -1,27 +1,13 @@
 // What is kept by one sender.
-use changes::is_number;
 use protocol::OptNumber;
 use protocol::OptReading;
 use protocol::Sender;
+use values::is_number;
+use values::is_reading;
+use words::is_time;
 ghost use mathlib.Core.Path.{_≡_};
-ghost use Rattle.protocol.specs.Words.{isTime};
-ghost use Rattle.protocol.specs.Record.{isReading, readingInRange, serialInRange, senderInRange, senderIsNone};
+ghost use Rattle.protocol.specs.Record.{readingInRange, serialInRange, senderInRange, senderIsNone};
 ghost use Rattle.ranges.specs.Ranges.{keptInRange};
-
-pub fn is_time(t: u32) -> bool
-    ensures { λ b. ⌜ b ≡ isTime t ⌝ }
-{
-    t < 268435456
-}
-
-fn is_reading(k: OptReading) -> bool
-    ensures { λ b. ⌜ b ≡ isReading k ⌝ }
-{
-    match k {
-        OptReading::NoReading => false,
-        OptReading::SomeReading(_) => true,
-    }
-}
 
 fn reading_in_range(k: OptReading) -> bool
     ensures { λ b. ⌜ b ≡ readingInRange k ⌝ }

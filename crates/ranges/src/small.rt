@@ -1,23 +1,17 @@
 // A record less what it keeps by sender.
-use crate::kept::is_time;
 use changes::State;
-use changes::is_number;
 use protocol::OptNumber;
 use protocol::Phase;
 use protocol::Reading;
+use values::is_number;
+use words::heads_fit;
+use words::is_time;
 ghost use mathlib.Core.Path.{_≡_};
 ghost use mathlib.Core.Bool.{_||_};
 ghost use lib.Dec.{eqb};
 ghost use Rattle.protocol.specs.Base.{_⇒_};
-ghost use Rattle.protocol.specs.Words.{headsFit};
 ghost use Rattle.protocol.specs.Record.{isNumber, sentInRange, phaseInRange};
 ghost use Rattle.ranges.specs.Ranges.{marksFit, stateInRange};
-
-fn heads_fit(n: u8, f: u8) -> bool
-    ensures { λ b. ⌜ b ≡ headsFit n f ⌝ }
-{
-    2 <= n && (n <= 16 && 2 * (f as u16) + 1 <= n as u16)
-}
 
 fn sent_in_range(n: u8, choice: OptNumber, sent: u8) -> bool
     ensures { λ b. ⌜ b ≡ sentInRange n choice sent ⌝ }

@@ -25,8 +25,8 @@ use Rattle.protocol.proofs.Valid.{Valid, valid-run, heads-fit}
 use Rattle.protocol.proofs.Ranges.{InRange, run-in-range}
 use Rattle.protocol.proofs.ResultWords.{number-below, start-below}
 use Rattle.sheet.specs.declared.Ran.{Ran}
-use Rattle.sheet.specs.Bench.{table, sentOf, benchOf, noSetting, answerOf, runFirst}
-use Rattle.sheet.proofs.Tables.{table-at, noRecord}
+use Rattle.sheet.specs.Bench.{table, noRecord, sentOf, benchOf, noSetting, answerOf, runFirst}
+use Rattle.sheet.proofs.Tables.{table-at}
 use Rattle.sheet.proofs.Sheets.{passed}
 use Rattle.results.specs.Written.{Writable, AllWritable, recordAt}
 use Rattle.results.proofs.Words.{same-words}

@@ -4,7 +4,7 @@ use Prim.Native.Nat.{ℕ, _^_, _<_}
 use lib.ListN.{getD}
 use Rattle.protocol.specs.declared.HeadRecord.{HeadRecord}
 use Rattle.protocol.specs.Record.{numberOr0, readingOr0, chosenStart}
-use Rattle.sheet.proofs.Tables.{noRecord}
+use Rattle.sheet.specs.Bench.{noRecord}
 
 -- candidate and adjuster fit into four bits, adjustment and start reading into 28
 pub record Writable (r : HeadRecord) : Type 0 where

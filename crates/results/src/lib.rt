@@ -3,15 +3,14 @@ ghost use mathlib.Core.Path.{_≡_};
 ghost use mathlib.Core.List.{_++_};
 ghost use Prim.Native.Nat.{_+_, _*_, _^_, _≤_, _<_};
 ghost use lib.ListN.{length, drop};
-ghost use Rattle.protocol.specs.Record.{numberOr0, readingOr0};
 ghost use Rattle.protocol.specs.Results.{outcomeWord, adjustmentWord, startWord, wordsFrom, replay};
 ghost use Rattle.results.specs.Written.{Writable, AllWritable, recordAt};
 use protocol::Cause;
 use protocol::HeadRecord;
-use protocol::OptNumber;
-use protocol::OptReading;
 use protocol::Replayed;
 use protocol::Verdict;
+use values::number_or_0;
+use values::reading_or_0;
 
 // 7 × 2²⁸ and 8 × 2²⁸: a word of kind 7 or 8 less what stands below its kind
 const KIND_7: u32 = 1879048192;
@@ -23,24 +22,6 @@ pub struct HeadWords {
     pub outcome: u32,
     pub adjustment: u32,
     pub start: u32,
-}
-
-fn number_or_0(x: OptNumber) -> u8
-    ensures { λ k. ⌜ k ≡ numberOr0 x ⌝ }
-{
-    match x {
-        OptNumber::NoNumber => 0,
-        OptNumber::SomeNumber(k) => k,
-    }
-}
-
-fn reading_or_0(x: OptReading) -> u32
-    ensures { λ t. ⌜ t ≡ readingOr0 x ⌝ }
-{
-    match x {
-        OptReading::NoReading => 0,
-        OptReading::SomeReading(t) => t.0,
-    }
 }
 
 // "kind 6 with bits 27–24 outcome, 23–20 head, 19–16 candidate, 15–12 adjuster, rest zero"

@@ -1,12 +1,12 @@
 -- A run's state says what its history says: the heads' records, and the frames sent by head and serial.
-use mathlib.Core.Path.{_≡_, refl, sym, _∙_, ap, ap₂, subst}
-use mathlib.Core.Bool.{Bool, true, false, cond, not, _&&_, _||_}
-use mathlib.Core.List.{List, [], _∷_}
-use Prim.Native.Nat.{ℕ, zero, suc, _+_, _-_, _*_, _/_, _%_, _^_, _≤_, _<_}
+use mathlib.Core.Path.{_≡_, refl, sym, _∙_, ap}
+use mathlib.Core.Bool.{Bool, true, false, cond, _&&_, _||_}
+use mathlib.Core.List.{[], _∷_}
+use Prim.Native.Nat.{ℕ, _+_, _*_, _/_, _%_, _≤_, _<_}
 use native.Mathlib.Omega.{arith}
-use lib.Dec.{ltb, leb, eqb}
-use lib.ListN.{length, getD, set, replicate, length-replicate, getD-replicate}
-use borrow.Author.Tests.{eqb-true, eqb-false, eq-eqb, ne-eqb, lt-ltb, le-ltb, le-leb, leb-true, ltb-true, ltb-false}
+use lib.Dec.{ltb, eqb}
+use lib.ListN.{length, set, replicate, getD-replicate}
+use borrow.Author.Tests.{eqb-true, eqb-false, lt-ltb, le-ltb, ltb-true, ltb-false}
 use Rattle.protocol.specs.declared.HeadRecord.{HeadRecord}
 use Rattle.protocol.specs.declared.Setting.{Setting}
 use Rattle.protocol.specs.declared.Entry.{Entry}
@@ -20,14 +20,11 @@ use Rattle.protocol.specs.Words.{hasSerial}
 use Rattle.protocol.specs.Run.{Event, History, recordOf, isDeliveredBy, orElse, frameSent, frameOf, isFrame}
 use Rattle.entries.specs.Entries.{deliveredFrame}
 use Rattle.protocol.proofs.Tests.{absurd-bool, cases, cond-elim, and-left, and-right, or-left, or-right, or-cases, eqb-same}
-use Rattle.protocol.proofs.Effects.{Kind, votes, adjusts, number, serialOf, passedOver, prepared, Speech, nothing, voting, adjusting, utter, speechOf}
-use Rattle.protocol.proofs.Valid.{baseOf, Taken, Valid, start, more, record-at, record-other, by-head, of-effect, frame-fits, started-took}
+use Rattle.protocol.proofs.Effects.{votes, adjusts, number, serialOf, passedOver, prepared, Speech, nothing, voting, adjusting, utter, speechOf}
+use Rattle.protocol.proofs.Valid.{baseOf, Valid, start, more, record-other, by-head, of-effect, frame-fits, started-took}
 use Rattle.sheet.specs.declared.Sent.{Sent}
-use Rattle.sheet.specs.Bench.{table, actionAt, headAt, serialAt, placeFor, placeOfFrame, keptFrame, sentAt, sentOf}
-use Rattle.sheet.proofs.Tables.{is-table, set-table, table-at, noRecord}
-
-abbrev pub noSent : Sent
-noSent = record { frame = NoFrame; at = 0 }
+use Rattle.sheet.specs.Bench.{table, noSent, actionAt, headAt, serialAt, placeFor, placeOfFrame, keptFrame, sentAt, sentOf}
+use Rattle.sheet.proofs.Tables.{is-table, set-table}
 
 -- at first every record is fresh and nothing is sent
 pub first-records : (g : Setting) → table (fresh (g .n) (g .f)) 0 16 ≡ table (recordOf g []) 0 16
@@ -157,13 +154,6 @@ module _ (g : Setting) where
           let f = place-fields (e .action) (e .sender) (e .serial) hp hk in
           ap (λ (a : ℕ). frameSent s a (headAt place) (serialAt place)) (f .1 ∙ serial-action (e .action) w) ∙ ap (λ (p : ℕ). frameSent s (e .action) p (serialAt place)) (f .2) ∙ ap (frameSent s (e .action) (e .sender)) (f .3)
       go false u false w = sym (none-delivered s (e .action) (e .sender) (e .serial) u w)
-
-  -- THE TABLES AFTER AN ENTRY
-
-  pub set-records : (e : Event) (s : History) → e .entry .head < 16 → set (table (recordOf g s) 0 16) (e .entry .head) (e .after) ≡ table (recordOf g (e ∷ s)) 0 16
-  set-records e s l =
-      set-table (recordOf g s) (recordOf g (e ∷ s)) 16 (e .entry .head) (e .after) noRecord l (record-at g e s)
-      (λ j lt d. record-other g e s j (ne-eqb (e .entry .head) j (λ z. eqb-false j (e .entry .head) d (sym z))))
 
 -- FRAMES SENT
 

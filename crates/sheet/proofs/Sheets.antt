@@ -1,8 +1,8 @@
 -- What causes 1 to 4 leave of a sheet, and the run after them.
-use mathlib.Core.Path.{_≡_, refl, sym, _∙_, ap, subst}
+use mathlib.Core.Path.{_≡_, sym, _∙_}
 use mathlib.Core.Bool.{true}
 use mathlib.Core.List.{List}
-use Prim.Native.Nat.{ℕ, _+_, _*_, _/_, _%_, _^_, _≤_, _<_, min}
+use Prim.Native.Nat.{ℕ, _+_, _*_, _≤_, min}
 use native.Mathlib.Omega.{arith}
 use lib.Dec.{eqb}
 use lib.ListN.{length, getD}
@@ -12,9 +12,9 @@ use Rattle.protocol.specs.declared.Verdict.{Verdict}
 use Rattle.protocol.specs.declared.Verdict.the-variants.{Accepted, Refused}
 use Rattle.protocol.specs.Words.{bits, headsFit, settingOf, firstWordFits, settingAt, entryCount}
 use Rattle.protocol.specs.Causes.{sheetVerdict}
-use Rattle.protocol.specs.Run.{stopped, runOf, afterVerdict}
+use Rattle.protocol.specs.Run.{stopped, runOf}
 use Rattle.protocol.proofs.Tests.{and-left, and-right}
-use Rattle.protocol.proofs.Fits.{FittingSheet, sheet-fits}
+use Rattle.protocol.proofs.Fits.{sheet-fits}
 use Rattle.sheet.specs.declared.Ran.{Ran}
 use Rattle.sheet.specs.Bench.{noSetting, answerOf, runFirst}
 

@@ -1,18 +1,17 @@
 -- Tables of a function's values, and lists that hold them.
 use mathlib.Core.Path.{_≡_, refl, sym, _∙_, ap}
-use mathlib.Core.Bool.{false}
-use mathlib.Core.List.{List, [], _∷_}
-use Prim.Native.Nat.{ℕ, zero, suc, _+_, _≤_, _<_}
+use mathlib.Core.Bool.{Bool, false, cond}
+use mathlib.Core.List.{List}
+use Prim.Native.Nat.{ℕ, zero, suc, _+_, _<_}
+use mathlib.Core.Logic.{_≢_}
 use native.Mathlib.Nat.{not-suc-le-zero}
 use native.Mathlib.Omega.{arith}
 use lib.ListN.{length, getD, set, length-set}
 use lib.Seq.{ext-getD, getD-set-same, getD-set-other}
-use lib.Dec.{eqb}
+use lib.Dec.{ltb, eqb}
 use borrow.Author.Count.{below-more}
-use borrow.Author.Tests.{eqb-true, eqb-false}
+use borrow.Author.Tests.{eqb-true, eqb-false, ltb-true, ltb-false, lt-ltb, le-ltb}
 use Rattle.protocol.proofs.Tests.{cases}
-use Rattle.protocol.specs.declared.HeadRecord.{HeadRecord}
-use Rattle.protocol.specs.Record.{reading, freshPhase}
 use Rattle.sheet.specs.Bench.{table}
 
 module _ {A : Type 0} where
@@ -52,6 +51,20 @@ module _ {A : Type 0} where
   fill-next f l i x d h e ih =
       below-more _ i (λ k lt. getD-set-other l i k x d (λ q. omega arith) ∙ ih k lt) (getD-set-same l i x d h ∙ e)
 
--- what stands past the end of an array of records
-abbrev pub noRecord : HeadRecord
-noRecord = record { n = 0; f = 0; own = 0; last = reading 0; started = false; confirmed = false; vote = freshPhase; adjust = freshPhase; adjustment = reading 0; senders = [] }
+  -- a list that holds one function's values below i and another's above, one more
+  pub fill-over : (f h : ℕ → A) (l : List A) (k i : ℕ) (x d : A) → length l ≡ k → i < k → x ≡ f i
+      → ((j : ℕ) → j < k → getD l j d ≡ cond (ltb j i) (f j) (h j)) → (j : ℕ) → j < k → getD (set l i x) j d ≡ cond (ltb j (i + 1)) (f j) (h j)
+  fill-over f h l k i x d n lt e ih j b =
+      cases (eqb j i)
+      (λ t. let same = eqb-true j i t in at same)
+      (λ t. getD-set-other l i j x d (λ z. eqb-false j i t z) ∙ ih j b ∙ ap (λ (c : Bool). cond c (f j) (h j)) (not-i (λ z. eqb-false j i t z)))
+    where
+      at : {j : ℕ} → j ≡ i → getD (set l i x) j d ≡ cond (ltb j (i + 1)) (f j) (h j)
+      at {j} same =
+          ap (λ (m : ℕ). getD (set l i x) m d) same ∙ getD-set-same l i x d (rw n lt) ∙ e ∙ ap f (sym same)
+          ∙ ap (λ (c : Bool). cond c (f j) (h j)) (sym (lt-ltb j (i + 1) (omega arith)))
+
+      not-i : j ≢ i → ltb j i ≡ ltb j (i + 1)
+      not-i z = cases (ltb j i)
+          (λ t. let below = ltb-true j i t in t ∙ sym (lt-ltb j (i + 1) (omega arith)))
+          (λ t. let above = ltb-false j i t in t ∙ sym (le-ltb j (i + 1) (omega (arith, z))))

@@ -1,18 +1,24 @@
 -- What a run keeps of its history: the record of each head, and each frame sent with the entry that sent it, in arrays by
 -- head and serial.
-use mathlib.Core.Bool.{Bool, cond, _&&_}
+use mathlib.Core.Bool.{false, cond, _&&_}
 use mathlib.Core.List.{List, [], _∷_}
-use Prim.Native.Nat.{ℕ, zero, suc, _+_, _-_, _*_, _/_, _%_, min}
+use Prim.Native.Nat.{ℕ, zero, suc, _+_, _*_, _/_, _%_, min}
 use lib.Dec.{ltb, eqb}
-use lib.ListN.{length}
+use lib.ListN.{length, getD}
 use Rattle.protocol.specs.declared.HeadRecord.{HeadRecord}
 use Rattle.protocol.specs.declared.Setting.{Setting}
 use Rattle.protocol.specs.declared.Frame.{Frame}
 use Rattle.protocol.specs.declared.Frame.the-variants.{NoFrame, Start, Vote, Adjust}
 use Rattle.protocol.specs.declared.Verdict.the-variants.{Accepted, Refused}
-use Rattle.protocol.specs.Words.{settingAt, entryCount}
+use Rattle.protocol.specs.Words.{entryCount, placeOf, entryAt, entryFits}
+use Rattle.protocol.specs.Record.{reading, freshPhase, noSender, fresh}
 use Rattle.protocol.specs.Causes.{sheetVerdict}
 use Rattle.protocol.specs.Run.{History, recordOf, isDeliveredBy, frameSent, isFrame, Run, stopped, ran, runOf, afterVerdict}
+use Rattle.protocol.specs.declared.Sender.{Sender}
+use Rattle.changes.specs.declared.State.{State}
+use Rattle.changes.specs.Changes.{stateFrom}
+use Rattle.actions.specs.Actions.{recordWith}
+use Rattle.sheet.specs.declared.Read.{Read}
 use Rattle.sheet.specs.declared.Sent.{Sent}
 use Rattle.sheet.specs.declared.Bench.{Bench}
 use Rattle.sheet.specs.declared.Ran.{Ran}
@@ -21,6 +27,31 @@ use Rattle.sheet.specs.declared.Ran.{Ran}
 abbrev pub table : {A : Type 0} → (ℕ → A) → ℕ → ℕ → List A
 table f i zero = []
 table f i (suc k) = f i ∷ table f (suc i) k
+
+-- what stands past the end of an array of records
+abbrev pub noRecord : HeadRecord
+noRecord = record { n = 0; f = 0; own = 0; last = reading 0; started = false; confirmed = false; vote = freshPhase; adjust = freshPhase; adjustment = reading 0; senders = [] }
+
+abbrev pub noSent : Sent
+noSent = record { frame = NoFrame; at = 0 }
+
+-- a run keeps what head q keeps by sender p at q × 16 + p, and the heads' states; the record of head q made of both, and
+-- fresh where the bench has no head q
+abbrev pub freshState : ℕ → State
+freshState q = stateFrom q (reading 0) false false freshPhase freshPhase (reading 0)
+
+abbrev pub noState : State
+noState = freshState 0
+
+abbrev pub rowOf : List Sender → ℕ → List Sender
+rowOf l q = table (λ p. getD l (q * 16 + p) noSender) 0 16
+
+abbrev pub recordIn : ℕ → ℕ → List State → List Sender → ℕ → HeadRecord
+recordIn n f states senders q = cond (ltb q n) (recordWith n f (getD states q noState) (rowOf senders q)) (fresh n f q)
+
+-- entry i, and the test of cause 6
+abbrev pub readOf : List ℕ → ℕ → ℕ → Read
+readOf ws n i = record { entry = entryAt ws i; fits = entryFits n (getD ws (placeOf i) 0) (getD ws (placeOf i + 1) 0) (getD ws (placeOf i + 2) 0) }
 
 -- votes stand at head × 16 + serial, adjusts 256 further: the action that delivers, the head and the serial of a place
 abbrev pub actionAt : ℕ → ℕ

@@ -1,8 +1,9 @@
 // A run sheet: the run of its entries, and the replay that fills a lent buffer.
+mod arrays;
+
 ghost use mathlib.Core.Path.{_≡_};
 ghost use Rattle.protocol.specs.Causes.{sheetVerdict};
 ghost use Rattle.protocol.specs.Words.{settingAt};
-ghost use Rattle.protocol.specs.Record.{fresh};
 ghost use Rattle.protocol.specs.Run.{runOf};
 ghost use Rattle.protocol.specs.Words.{headsFit};
 ghost use Prim.Native.Nat.{_+_, _*_, _%_, _≤_, _<_};
@@ -10,12 +11,32 @@ ghost use mathlib.Core.Bool.{true};
 ghost use mathlib.Core.List.{[]};
 ghost use lib.ListN.{length};
 ghost use Rattle.protocol.specs.Run.{stopped};
-ghost use Rattle.sheet.specs.Bench.{table, placeFor, placeOfFrame, keptFrame, benchOf, noSetting, answerOf, runFirst};
+ghost use Rattle.entries.specs.Entries.{deliveredFrame};
+ghost use Rattle.sheet.specs.Bench.{placeFor, placeOfFrame, keptFrame, readOf, noSetting, answerOf, runFirst};
+use actions::record_with;
+use actions::said;
+use actions::seat;
+use actions::with_reading;
+use arrays::fresh_records;
+use arrays::fresh_states;
+use arrays::no_sender;
+use arrays::no_sent;
+use arrays::records_of;
+use arrays::row_of;
+use changes::State;
+use changes::act;
+use changes::frame_of;
+use changes::keep_own;
+use changes::sender_of;
+use changes::speaks;
+use changes::state_after;
+use changes::voted_for;
+use entries::asked;
 use entries::delivered_frame;
+use entries::entry_verdict;
 use entries::is_frame;
-use entries::step_with;
-use fresh::fresh_record;
 use protocol::Cause;
+use protocol::Entry;
 use protocol::Frame;
 use protocol::HeadRecord;
 use protocol::Setting;
@@ -31,6 +52,12 @@ pub struct Sent {
 pub struct Bench {
     pub records: [HeadRecord; 16],
     pub sent: [Sent; 512],
+}
+
+// An entry, and whether its words fit (else cause 6).
+pub struct Read {
+    pub entry: Entry,
+    pub fits: bool,
 }
 
 // A run's answer: accepted, or the cause and the place of the refusal.
@@ -63,23 +90,11 @@ pub fn sheet_verdict(sheet: &[u32]) -> Verdict
     Verdict::Refused(Cause::BadLength)
 }
 
-fn fresh_records(n: u8, f: u8) -> [HeadRecord; 16]
-    ensures { λ l. ⌜ l ≡ table (fresh n f) 0 16 ⌝ }
+// The place of what head q keeps by sender p.
+fn place(q: u8, p: u8) -> usize
+    ensures { λ j. ⌜ (j ≡ q % 16 * 16 + p % 16) × (j < 256) ⌝ }
 {
-    let mut l = [fresh_record(n, f, 0); 16];
-    let mut i: usize = 0;
-    while i < 16 {
-        l[i] = fresh_record(n, f, i as u8);
-        i += 1;
-    }
-    l
-}
-
-// The place of head p in an array by head.
-fn seat(p: u8) -> usize
-    ensures { λ i. ⌜ i ≡ p % 16 ⌝ }
-{
-    (p % 16) as usize
+    (q % 16) as usize * 16 + (p % 16) as usize
 }
 
 // The place of the vote (action 5) or adjust (action 8) of head p under serial k.
@@ -131,10 +146,7 @@ fn refused_at(c: Cause, place: usize) -> Ran
 {
     let bench = Bench {
         records: fresh_records(0, 0),
-        sent: [Sent {
-            frame: Frame::NoFrame,
-            at: 0,
-        }; 512],
+        sent: [no_sent(); 512],
     };
     Ran {
         verdict: Verdict::Refused(c),
@@ -143,45 +155,74 @@ fn refused_at(c: Cause, place: usize) -> Ran
     }
 }
 
-// "entry by entry 6 to 9": the run of the first count entries.
+fn read_entry(sheet: &[u32], n: u8, i: usize) -> Read
+    requires { ⌜ (2 + 3 * i + 2 < length (now sheet)) × (length (now sheet) ≤ 12290) ⌝ }
+    ensures { λ r. ⌜ r ≡ readOf (now (sheet .entry)) n i ⌝ }
+{
+    let at = 2 + 3 * i;
+    let t = sheet[at];
+    let a = sheet[at + 1];
+    let w = sheet[at + 2];
+    let entry = words::entry_of(t, a, w);
+    let fits = words::entry_fits(n, t, a, w);
+    Read { entry, fits }
+}
+
+// The frame that an entry delivers: from is the sender's state, slot what stands at the entry's place of frames.
+fn frame_for(e: Entry, from: State, slot: Sent) -> Frame
+    ensures { λ x. ⌜ x ≡ deliveredFrame (e .action) (from .started) (slot .frame) ⌝ }
+{
+    let frame = slot.frame;
+    delivered_frame(e.action, from.started, frame)
+}
+
+// "entry by entry 6 to 9": the run of the first count entries. The steps of an accepted one are those of take_action,
+// on the arrays' elements; most entries say nothing, and end before the last block.
 fn run_entries(sheet: &[u32], g: Setting, count: usize) -> Ran
     requires { ⌜ (2 + 3 * count ≤ length (now sheet)) × (headsFit (g .n) (g .f) ≡ true) × (g ≡ settingAt (now sheet)) × (length (now sheet) ≤ 12290) ⌝ }
     ensures { λ r. ⌜ r ≡ answerOf g (runOf (now (sheet .entry)) count) ⌝ }
 {
-    let mut records = fresh_records(g.n, g.f);
-    let mut sent = [Sent {
-        frame: Frame::NoFrame,
-        at: 0,
-    }; 512];
+    let mut states = fresh_states();
+    let mut senders = [no_sender(); 256];
+    let mut sent = [no_sent(); 512];
     let mut time: u32 = 0;
     let mut i: usize = 0;
     while i < count {
-        let at = 2 + 3 * i;
-        let t = sheet[at];
-        let a = sheet[at + 1];
-        let w = sheet[at + 2];
-        let e = words::entry_of(t, a, w);
-        let fits = words::entry_fits(g.n, t, a, w);
-        let from = records[seat(e.sender)];
+        let r = read_entry(sheet, g.n, i);
+        let e = r.entry;
         let slot = sent[place_for(e.action, e.sender, e.serial)];
-        let frame = slot.frame;
-        let x = delivered_frame(e.action, from.started, frame);
+        let x = frame_for(e, states[seat(e.sender)], slot);
         let q = seat(e.head);
-        let s = step_with(time, records[q], x, fits, e);
-        let v = s.verdict;
+        let b = states[q];
+        let a = asked(e, x);
+        let v = entry_verdict(time, b, x, r.fits, e, a);
         match v {
-            Verdict::Refused(c) => return refused_at(c, at),
+            Verdict::Refused(c) => return refused_at(c, 2 + 3 * i),
             Verdict::Accepted => {
-                let after = s.after;
-                records[q] = after;
-                let y = s.frame;
-                let j = place_of_frame(e.head, y);
-                sent[j] = kept_frame(sent[j], y, i);
+                let p = place(e.head, sender_of(b.own, a));
+                let reading = e.reading;
+                let d = act(with_reading(b, reading), senders[p], a);
+                let kept = d.kept;
+                senders[p] = kept;
+                let state = d.state;
+                states[q] = state;
+                let message = d.message;
+                if speaks(message) {
+                    let s = said(record_with(g.n, g.f, b, row_of(senders, q)), d);
+                    states[q] = state_after(state, s);
+                    let k = senders[place(e.head, voted_for(b.own, s))];
+                    let o = place(e.head, b.own);
+                    senders[o] = keep_own(senders[o], s, k);
+                    let y = frame_of(state, s, k);
+                    let j = place_of_frame(e.head, y);
+                    sent[j] = kept_frame(sent[j], y, i);
+                }
                 time = e.time.0;
                 i += 1;
             }
         }
     }
+    let records = records_of(g.n, g.f, states, senders);
     let bench = Bench { records, sent };
     Ran {
         verdict: Verdict::Accepted,

@@ -17,8 +17,8 @@ use Rattle.protocol.specs.Causes.{sheetVerdict}
 use Rattle.protocol.specs.Run.{History, recordOf, Run, stopped, ran, runOf, afterVerdict}
 use Rattle.protocol.proofs.Fits.{FittingSheet, sheet-fits}
 use Rattle.sheet.specs.declared.Ran.{Ran}
-use Rattle.sheet.specs.Bench.{table, benchOf, answerOf, runFirst}
-use Rattle.sheet.proofs.Tables.{table-at, noRecord}
+use Rattle.sheet.specs.Bench.{table, noRecord, benchOf, answerOf, runFirst}
+use Rattle.sheet.proofs.Tables.{table-at}
 use Rattle.tracing.specs.declared.Line.{Line}
 use Rattle.tracing.specs.declared.Traced.{Traced}
 use Rattle.tracing.specs.declared.Traced.the-variants.{After, RefusedAt, Ended}

@@ -72,23 +72,14 @@ element-copy-out-keep-own c = search needs
 keep-own-requires : tie.Need-keep-own-requires
 keep-own-requires c κs = search needs
 
-mul-t38 : tie.Need-mul-t38
-mul-t38 c = search needs
+mul-t42 : tie.Need-mul-t42
+mul-t42 c = search needs
 
 element-set-from-t : tie.Need-element-set-from-t
 element-set-from-t c = search needs
 
-last-of-requires : tie.Need-last-of-requires
-last-of-requires c κs = search needs
-
-vote-after-requires : tie.Need-vote-after-requires
-vote-after-requires c κs = search needs
-
-adjust-after-requires : tie.Need-adjust-after-requires
-adjust-after-requires c κs = search needs
-
-adjustment-after-requires : tie.Need-adjustment-after-requires
-adjustment-after-requires c κs = search needs
+state-after-requires : tie.Need-state-after-requires
+state-after-requires c κs = search needs
 
 frame-of-requires : tie.Need-frame-of-requires
 frame-of-requires c κs = search needs
@@ -106,17 +97,14 @@ returns c =
     let seat2 = c .before .before .before .before .before .before .before .before .before .before .seat2 in
     let seat3 = c .before .before .before .before .before .before .before .before .seat3 in
     let own = c .before .before .before .before .before .before .keep-own in
-    let last = c .before .before .before .before .last-of in
-    let vote = c .before .before .before .vote-after in
-    let adjust = c .before .before .adjust-after in
-    let adjustment = c .before .adjustment-after in
+    let after = c .before .before .before .before .before .state-after in
     whole r (args .x) (args .sent) (args .a) (admitted .result) (sender .result) (seat .result) (change .result) (join .s) (voted .result) (seat2 .result)
-    (seat3 .result) (own .result) (last .result) (vote .result) (adjust .result) (adjustment .result) (c .frame-of .result)
+    (seat3 .result) (own .result) (after .result) (c .frame-of .result)
     (admitted .ensures ∙ ap (λ (b : State). admissionOf (r .n) (withMarks b (r .started) (r .confirmed)) (args .x) (args .sent) (args .a)) (c .before .before .before .before .before .before .before .before .before .before .before .before .before .before .before .before .before .before .before .unstarted .ensures))
     (sender .ensures) (seat .ensures) (change .ensures)
     (sending-when r (seat .result) (change .result) (join .s)
     (⊎-elim (λ w. inl (w .0 .taken, w .2 ∙ w .1 .ensures)) (λ w. inr (w .0 .left, w .1)) (join .came)))
-    (voted .ensures) (seat2 .ensures) (seat3 .ensures) (own .ensures) (last .ensures) (vote .ensures) (adjust .ensures) (adjustment .ensures) (c .frame-of .ensures)
+    (voted .ensures) (seat2 .ensures) (seat3 .ensures) (own .ensures) (after .ensures) (c .frame-of .ensures)
 
 pub take-action-spec : {M : Type 1} → statement M
 take-action-spec =
@@ -140,11 +128,8 @@ take-action-spec =
     mul-keep-own
     element-copy-out-keep-own
     keep-own-requires
-    mul-t38
+    mul-t42
     element-set-from-t
-    last-of-requires
-    vote-after-requires
-    adjust-after-requires
-    adjustment-after-requires
+    state-after-requires
     frame-of-requires
     returns)

@@ -1,220 +1,256 @@
-use mathlib.Core.Path.{_≡_, refl, sym, _∙_, ap}
-use Prim.Native.Nat.{ℕ, _-_, _≤_, _<_}
+use mathlib.Core.Path.{_≡_, sym, _∙_, ap}
+use mathlib.Core.Logic.{⊎-elim}
+use Prim.Native.Nat.{_-_, _≤_}
 use denote.Ref.{now}
-use lib.ListN.{length, getD, length-set}
-use Rattle.protocol.specs.declared.Setting.{Setting}
-use Rattle.protocol.specs.Record.{fresh}
-use Rattle.protocol.specs.Run.{recordOf, ran, stopped}
-use Rattle.sheet.specs.Bench.{table, sentOf, benchOf, answerOf}
-use Rattle.sheet.proofs.Tables.{length-table}
-use Rattle.sheet.proofs.Loop.{Keeps, first-keeps, run-refused, run-goes, run-ended, run-stopped}
+use lib.ListN.{length, replicate}
+use Rattle.sheet.proofs.Loop.{Keeps, first-keeps, keeps-same, keeps-lengths, heads-few, run-refused, run-quiet, run-spoke, run-ended, run-stopped}
 use native.Mathlib.Omega.{arith}
 use borrow.Author.Needs.{needs}
 use Rattle.sheet.proofs.run_entries.Statement.{statement}
 use Rattle.sheet.proofs.run_entries.Tie as tie
-use Rattle.sheet.proofs.run_entries.Reads as reads
-use Rattle.sheet.proofs.run_entries.Lts as lts
-use Rattle.entries.proofs.delivered_frame.Reads as delivered-frame-reads
-use Rattle.entries.proofs.step_with.Reads as step-with-reads
-use Rattle.sheet.proofs.fresh_records.Reads as fresh-records-reads
-use Rattle.sheet.proofs.kept_frame.Reads as kept-frame-reads
-use Rattle.sheet.proofs.place_for.Reads as place-for-reads
-use Rattle.sheet.proofs.place_of_frame.Reads as place-of-frame-reads
-use Rattle.sheet.proofs.refused_at.Reads as refused-at-reads
-use Rattle.sheet.proofs.seat.Reads as seat-reads
-use Rattle.words.proofs.entry_fits.Reads as entry-fits-reads
-use Rattle.words.proofs.entry_of.Reads as entry-of-reads
 
 abbrev Inv-loop : tie.InvT-loop
-Inv-loop sheet g count records₀ sent₀ time₀ i₀ records sent time i = (i ≤ count) × (length records ≡ 16) × (length sent ≡ 512) × Keeps sheet i records sent time
+Inv-loop sheet g count states₀ senders₀ sent₀ time₀ i₀ states senders sent time i = (i ≤ count) × (length states ≡ 16) × (length senders ≡ 256) × (length sent ≡ 512) × Keeps sheet i states senders sent time
 
 abbrev μ-loop : tie.MeasureT-loop
-μ-loop sheet g count records₀ sent₀ time₀ i₀ records sent time i = count - i
+μ-loop sheet g count states₀ senders₀ sent₀ time₀ i₀ states senders sent time i = count - i
 
--- src/lib.rt:160:23
-fresh-records-requires : tie.Need-fresh-records-requires Inv-loop μ-loop
-fresh-records-requires c κs = search needs
+fresh-states-requires : tie.Need-fresh-states-requires Inv-loop μ-loop
+fresh-states-requires c κs = search needs
 
--- src/lib.rt:164:5
+no-sender-requires : tie.Need-no-sender-requires Inv-loop μ-loop
+no-sender-requires c κs = search needs
+
+no-sent-requires : tie.Need-no-sent-requires Inv-loop μ-loop
+no-sent-requires c κs = search needs
+
 loop-holds : tie.Need-loop-holds Inv-loop μ-loop
 loop-holds c =
-    let pre = c .before .before .pre in
-    let records-are = c .fresh-records .ensures ∙ ap (λ (g : Setting). table (fresh (g .n) (g .f)) 0 16) (pre .2) in
-    (omega arith, ap length (c .fresh-records .ensures) ∙ length-table (fresh (c .before .before .args .g .n) (c .before .before .args .g .f)) 0 16, refl, first-keeps _ _ _ records-are refl)
+    let first = first-keeps _ _ _ _ (c .before .before .fresh-states .ensures) (ap (replicate 256) (c .before .no-sender .ensures)) (ap (replicate 512) (c .no-sent .ensures)) in
+    let n = keeps-lengths _ _ _ _ _ _ first in
+    (omega arith, n .0, n .1, n .2, first)
 
--- src/lib.rt:165:22
-mul-at : tie.Need-mul-at Inv-loop μ-loop
-mul-at c = search needs
+read-entry-requires : tie.Need-read-entry-requires Inv-loop μ-loop
+read-entry-requires c κs = search needs
 
--- src/lib.rt:165:18
-add-at : tie.Need-add-at Inv-loop μ-loop
-add-at c = search needs
-
--- src/lib.rt:166:17
-mul-t : tie.Need-mul-t Inv-loop μ-loop
-mul-t c = search needs
-
--- src/lib.rt:166:17
-shared-slice-read-t : tie.Need-shared-slice-read-t Inv-loop μ-loop
-shared-slice-read-t c = search needs
-
--- src/lib.rt:167:23
-add-a : tie.Need-add-a Inv-loop μ-loop
-add-a c = search needs
-
--- src/lib.rt:167:17
-mul-a : tie.Need-mul-a Inv-loop μ-loop
-mul-a c = search needs
-
--- src/lib.rt:167:17
-shared-slice-read-a : tie.Need-shared-slice-read-a Inv-loop μ-loop
-shared-slice-read-a c = search needs
-
--- src/lib.rt:168:23
-add-w : tie.Need-add-w Inv-loop μ-loop
-add-w c = search needs
-
--- src/lib.rt:168:17
-mul-w : tie.Need-mul-w Inv-loop μ-loop
-mul-w c = search needs
-
--- src/lib.rt:168:17
-shared-slice-read-w : tie.Need-shared-slice-read-w Inv-loop μ-loop
-shared-slice-read-w c = search needs
-
--- src/lib.rt:169:13
-entry-of-requires : tie.Need-entry-of-requires Inv-loop μ-loop
-entry-of-requires c κs = search needs
-
--- src/lib.rt:170:13
-entry-fits-requires : tie.Need-entry-fits-requires Inv-loop μ-loop
-entry-fits-requires c κs = search needs
-
--- src/lib.rt:171:28
-seat-requires : tie.Need-seat-requires Inv-loop μ-loop
-seat-requires c κs = search needs
-
--- src/lib.rt:171:20
-mul-from : tie.Need-mul-from Inv-loop μ-loop
-mul-from c = search needs
-
--- src/lib.rt:171:20
-array-copy-out-from : tie.Need-array-copy-out-from Inv-loop μ-loop
-array-copy-out-from c = search needs
-
--- src/lib.rt:172:25
 place-for-requires : tie.Need-place-for-requires Inv-loop μ-loop
 place-for-requires c κs = search needs
 
--- src/lib.rt:172:20
 mul-slot : tie.Need-mul-slot Inv-loop μ-loop
 mul-slot c = search needs
 
--- src/lib.rt:172:20
 array-copy-out-slot : tie.Need-array-copy-out-slot Inv-loop μ-loop
 array-copy-out-slot c = search needs
 
--- src/lib.rt:174:13
-delivered-frame-requires : tie.Need-delivered-frame-requires Inv-loop μ-loop
-delivered-frame-requires c κs = search needs
+seat-requires : tie.Need-seat-requires Inv-loop μ-loop
+seat-requires c κs = search needs
 
--- src/lib.rt:175:13
+mul-frame-for : tie.Need-mul-frame-for Inv-loop μ-loop
+mul-frame-for c = search needs
+
+array-copy-out-frame-for : tie.Need-array-copy-out-frame-for Inv-loop μ-loop
+array-copy-out-frame-for c = search needs
+
+frame-for-requires : tie.Need-frame-for-requires Inv-loop μ-loop
+frame-for-requires c κs = search needs
+
 seat-requires-2 : tie.Need-seat-requires-2 Inv-loop μ-loop
 seat-requires-2 c κs = search needs
 
--- src/lib.rt:176:33
-mul-step-with : tie.Need-mul-step-with Inv-loop μ-loop
-mul-step-with c = search needs
+mul-b : tie.Need-mul-b Inv-loop μ-loop
+mul-b c = search needs
 
--- src/lib.rt:176:33
-array-copy-out-step-with : tie.Need-array-copy-out-step-with Inv-loop μ-loop
-array-copy-out-step-with c = search needs
+array-copy-out-b : tie.Need-array-copy-out-b Inv-loop μ-loop
+array-copy-out-b c = search needs
 
--- src/lib.rt:176:13
-step-with-requires : tie.Need-step-with-requires Inv-loop μ-loop
-step-with-requires c κs = search needs
+asked-requires : tie.Need-asked-requires Inv-loop μ-loop
+asked-requires c κs = search needs
 
--- src/lib.rt:179:30
+entry-verdict-requires : tie.Need-entry-verdict-requires Inv-loop μ-loop
+entry-verdict-requires c κs = search needs
+
 enum-known-v : tie.Need-enum-known-v Inv-loop μ-loop
 enum-known-v c = search needs
 
--- src/lib.rt:179:36
+mul-refused-at : tie.Need-mul-refused-at Inv-loop μ-loop
+mul-refused-at c = search needs
+
+add-refused-at : tie.Need-add-refused-at Inv-loop μ-loop
+add-refused-at c = search needs
+
 refused-at-requires : tie.Need-refused-at-requires Inv-loop μ-loop
 refused-at-requires c κs = search needs
 
--- src/lib.rt:179:36
 returns : tie.Need-returns Inv-loop μ-loop
 returns c =
-    let L = c .before .before .before .before .before .before .before .before .before .before .before .before .before .before .before .before .before .before .loop in
+    let L = c .before .before .before .before .before .before .before .before .before .before .before .before .before .before .before .before .loop in
     let A = c .before .before .before .before .before .before .before .before .before .before .before .before .before .before .before .before .before .before .before .before .before .args in
     let P = c .before .before .before .before .before .before .before .before .before .before .before .before .before .before .before .before .before .before .before .before .before .pre in
-    let refused = run-refused (now (A .sheet)) (A .g) (P .2) (P .1) (L .i) (L .records) (L .sent) (L .time) (L .inv .3) (c .before .before .before .before .before .before .before .before .before .before .before .before .before .entry-of .result) (c .before .before .before .before .before .before .before .before .before .before .before .before .entry-fits .result) (c .before .before .before .before .before .before .before .before .before .before .before .seat .result)
-    (c .before .before .before .before .before .before .before .before .before .place-for .result) (c .before .before .before .before .before .before .seat2 .result) (c .before .before .before .before .before .before .before .delivered-frame .result) (c .before .before .before .before .step-with .result) (c .before .before .before .before .before .before .before .before .before .before .before .before .before .entry-of .ensures) (c .before .before .before .before .before .before .before .before .before .before .before .before .entry-fits .ensures) (c .before .before .before .before .before .before .before .before .before .before .before .seat .ensures)
-    (c .before .before .before .before .before .before .before .before .before .place-for .ensures .0) (c .before .before .before .before .before .before .before .delivered-frame .ensures) (c .before .before .before .before .before .before .seat2 .ensures) (c .before .before .before .before .step-with .ensures) _ (A .count) (c .before .before .before .before .before .before .before .before .before .before .before .before .before .before .before .before .before .loop-test .taken) (c .before .before .v .given .1) in
-    c .refused-at .ensures ∙ run-stopped _ (A .g) (A .count) _ _ refused
+    let read = c .before .before .before .before .before .before .before .before .before .before .before .before .before .before .read-entry in
+    let place = c .before .before .before .before .before .before .before .before .before .before .before .before .place-for in
+    let from = c .before .before .before .before .before .before .before .before .before .before .seat in
+    let frame = c .before .before .before .before .before .before .before .before .frame-for in
+    let seat = c .before .before .before .before .before .before .before .seat2 in
+    let asks = c .before .before .before .before .before .asked in
+    let verdict = c .before .before .before .before .entry-verdict in
+    c .refused-at .ensures ∙ run-stopped _ (A .g) (A .count) _ _
+    (run-refused (now (A .sheet)) (A .g) (P .2) (P .1) (L .i) (L .states) (L .senders) (L .sent) (L .time) (L .inv .4) (read .result) (place .result) (from .result) (seat .result) (frame .result) (asks .result) (verdict .result)
+    (read .ensures) (place .ensures .0) (from .ensures) (frame .ensures) (seat .ensures) (asks .ensures) (verdict .ensures)
+    _ (A .count) (c .before .before .before .before .before .before .before .before .before .before .before .before .before .before .before .loop-test .taken) (c .before .before .v .given .1))
 
--- src/lib.rt:181:21
 enum-told : tie.Need-enum-told Inv-loop μ-loop
 enum-told c = search needs
 
--- src/lib.rt:182:17
-mul-records : tie.Need-mul-records Inv-loop μ-loop
-mul-records c = search needs
+sender-of-requires : tie.Need-sender-of-requires Inv-loop μ-loop
+sender-of-requires c κs = search needs
 
--- src/lib.rt:182:17
-array-set-from-records : tie.Need-array-set-from-records Inv-loop μ-loop
-array-set-from-records c = search needs
+place-requires : tie.Need-place-requires Inv-loop μ-loop
+place-requires c κs = search needs
 
--- src/lib.rt:184:21
+with-reading-requires : tie.Need-with-reading-requires Inv-loop μ-loop
+with-reading-requires c κs = search needs
+
+mul-act : tie.Need-mul-act Inv-loop μ-loop
+mul-act c = search needs
+
+array-copy-out-act : tie.Need-array-copy-out-act Inv-loop μ-loop
+array-copy-out-act c = search needs
+
+act-requires : tie.Need-act-requires Inv-loop μ-loop
+act-requires c κs = search needs
+
+mul-senders : tie.Need-mul-senders Inv-loop μ-loop
+mul-senders c = search needs
+
+array-set-from-senders : tie.Need-array-set-from-senders Inv-loop μ-loop
+array-set-from-senders c = search needs
+
+mul-states : tie.Need-mul-states Inv-loop μ-loop
+mul-states c = let seat = c .before .before .before .before .before .before .before .before .before .before .before .before .before .seat2 .ensures in omega (arith, seat)
+
+array-set-from-states : tie.Need-array-set-from-states Inv-loop μ-loop
+array-set-from-states c = let seat = c .before .before .before .before .before .before .before .before .before .before .before .before .before .seat2 .ensures in omega (arith, seat)
+
+speaks-requires : tie.Need-speaks-requires Inv-loop μ-loop
+speaks-requires c κs = search needs
+
+row-of-requires : tie.Need-row-of-requires Inv-loop μ-loop
+row-of-requires c κs = let seat = c .before .before .before .before .before .before .before .before .before .before .before .before .before .before .before .seat2 .ensures in omega (arith, seat)
+
+record-with-requires : tie.Need-record-with-requires Inv-loop μ-loop
+record-with-requires c κs = search needs
+
+said-requires : tie.Need-said-requires Inv-loop μ-loop
+said-requires c κs = rw (c .record-with .ensures) (heads-few _ _ (c .before .before .before .before .before .before .before .before .before .before .before .before .before .before .before .before .before .before .before .before .before .before .before .before .before .before .before .before .before .before .before .pre .1))
+
+state-after-requires : tie.Need-state-after-requires Inv-loop μ-loop
+state-after-requires c κs = search needs
+
+mul-states-2 : tie.Need-mul-states-2 Inv-loop μ-loop
+mul-states-2 c = let seat = c .before .before .before .before .before .before .before .before .before .before .before .before .before .before .before .before .before .before .before .seat2 .ensures in omega (arith, seat)
+
+array-set-from-states-2 : tie.Need-array-set-from-states-2 Inv-loop μ-loop
+array-set-from-states-2 c = let seat = c .before .before .before .before .before .before .before .before .before .before .before .before .before .before .before .before .before .before .before .seat2 .ensures in omega (arith, seat)
+
+voted-for-requires : tie.Need-voted-for-requires Inv-loop μ-loop
+voted-for-requires c κs = search needs
+
+place-requires-2 : tie.Need-place-requires-2 Inv-loop μ-loop
+place-requires-2 c κs = search needs
+
+mul-k : tie.Need-mul-k Inv-loop μ-loop
+mul-k c = search needs
+
+array-copy-out-k : tie.Need-array-copy-out-k Inv-loop μ-loop
+array-copy-out-k c = search needs
+
+place-requires-3 : tie.Need-place-requires-3 Inv-loop μ-loop
+place-requires-3 c κs = search needs
+
+mul-keep-own : tie.Need-mul-keep-own Inv-loop μ-loop
+mul-keep-own c = search needs
+
+array-copy-out-keep-own : tie.Need-array-copy-out-keep-own Inv-loop μ-loop
+array-copy-out-keep-own c = search needs
+
+keep-own-requires : tie.Need-keep-own-requires Inv-loop μ-loop
+keep-own-requires c κs = search needs
+
+mul-senders-2 : tie.Need-mul-senders-2 Inv-loop μ-loop
+mul-senders-2 c = search needs
+
+array-set-from-senders-2 : tie.Need-array-set-from-senders-2 Inv-loop μ-loop
+array-set-from-senders-2 c = search needs
+
+frame-of-requires : tie.Need-frame-of-requires Inv-loop μ-loop
+frame-of-requires c κs = search needs
+
 place-of-frame-requires : tie.Need-place-of-frame-requires Inv-loop μ-loop
 place-of-frame-requires c κs = search needs
 
--- src/lib.rt:185:38
 mul-kept-frame : tie.Need-mul-kept-frame Inv-loop μ-loop
 mul-kept-frame c = search needs
 
--- src/lib.rt:185:38
 array-copy-out-kept-frame : tie.Need-array-copy-out-kept-frame Inv-loop μ-loop
 array-copy-out-kept-frame c = search needs
 
--- src/lib.rt:185:27
 kept-frame-requires : tie.Need-kept-frame-requires Inv-loop μ-loop
 kept-frame-requires c κs = search needs
 
--- src/lib.rt:185:17
 mul-sent : tie.Need-mul-sent Inv-loop μ-loop
 mul-sent c = search needs
 
--- src/lib.rt:185:17
 array-set-from-sent : tie.Need-array-set-from-sent Inv-loop μ-loop
 array-set-from-sent c = search needs
 
--- src/lib.rt:187:17
 add-i : tie.Need-add-i Inv-loop μ-loop
-add-i c = omega (arith, c .before .before .before .before .before .before .before .before .before .before .before .before .before .before .before .before .before .before .before .loop-test .taken, c .before .before .before .before .before .before .before .before .before .before .before .before .before .before .before .before .before .before .before .before .before .before .before .pre)
+add-i c = omega (arith, c .before .before .before .before .before .before .before .before .before .before .before .before .before .before .before .before .before .before .before .before .before .before .before .loop-test .taken, c .before .before .before .before .before .before .before .before .before .before .before .before .before .before .before .before .before .before .before .before .before .before .before .before .before .before .before .before .before .pre)
 
--- src/lib.rt:164:5
 loop-less : tie.Need-loop-less Inv-loop μ-loop
-loop-less c = omega (arith, c .before .before .before .before .before .before .before .before .before .before .before .before .before .before .before .before .before .before .before .loop-test .taken)
+loop-less c = omega (arith, c .before .before .before .before .before .before .before .before .before .before .before .before .before .before .before .before .before .before .before .before .before .before .before .loop-test .taken)
 
--- src/lib.rt:164:5
 loop-again : tie.Need-loop-again Inv-loop μ-loop
 loop-again c =
-    let L = c .before .before .before .before .before .before .before .before .before .before .before .before .before .before .before .before .before .before .before .before .loop in
-    let A = c .before .before .before .before .before .before .before .before .before .before .before .before .before .before .before .before .before .before .before .before .before .before .before .args in
-    let P = c .before .before .before .before .before .before .before .before .before .before .before .before .before .before .before .before .before .before .before .before .before .before .before .pre in
-    let on = run-goes (now (A .sheet)) (A .g) (P .2) (P .1) (L .i) (L .records) (L .sent) (L .time) (L .inv .3) (c .before .before .before .before .before .before .before .before .before .before .before .before .before .before .before .entry-of .result) (c .before .before .before .before .before .before .before .before .before .before .before .before .before .before .entry-fits .result) (c .before .before .before .before .before .before .before .before .before .before .before .before .before .seat .result)
-    (c .before .before .before .before .before .before .before .before .before .before .before .place-for .result) (c .before .before .before .before .before .before .before .before .seat2 .result) (c .before .before .before .before .before .before .before .before .before .delivered-frame .result) (c .before .before .before .before .before .before .step-with .result) (c .before .before .before .before .before .before .before .before .before .before .before .before .before .before .before .entry-of .ensures) (c .before .before .before .before .before .before .before .before .before .before .before .before .before .before .entry-fits .ensures) (c .before .before .before .before .before .before .before .before .before .before .before .before .before .seat .ensures)
-    (c .before .before .before .before .before .before .before .before .before .before .before .place-for .ensures .0) (c .before .before .before .before .before .before .before .before .before .delivered-frame .ensures) (c .before .before .before .before .before .before .before .before .seat2 .ensures) (c .before .before .before .before .before .before .step-with .ensures) (c .before .before .place-of-frame .result) (c .kept-frame .result) (c .before .before .place-of-frame .ensures .0) (c .kept-frame .ensures) (c .before .before .before .before .enum-told .given .1) in
-    (omega (arith, c .before .before .before .before .before .before .before .before .before .before .before .before .before .before .before .before .before .before .before .loop-test .taken), simp length-set (L .inv .1), simp length-set (L .inv .2), on)
+    let L = c .before .before .before .before .before .before .before .before .before .before .before .before .before .before .before .before .before .before .before .before .before .before .before .before .loop in
+    let A = c .before .before .before .before .before .before .before .before .before .before .before .before .before .before .before .before .before .before .before .before .before .before .before .before .before .before .before .before .before .args in
+    let P = c .before .before .before .before .before .before .before .before .before .before .before .before .before .before .before .before .before .before .before .before .before .before .before .before .before .before .before .before .before .pre in
+    let read = c .before .before .before .before .before .before .before .before .before .before .before .before .before .before .before .before .before .before .before .before .before .before .read-entry in
+    let place = c .before .before .before .before .before .before .before .before .before .before .before .before .before .before .before .before .before .before .before .before .place-for in
+    let from = c .before .before .before .before .before .before .before .before .before .before .before .before .before .before .before .before .before .before .seat in
+    let frame = c .before .before .before .before .before .before .before .before .before .before .before .before .before .before .before .before .frame-for in
+    let seat = c .before .before .before .before .before .before .before .before .before .before .before .before .before .before .before .seat2 in
+    let asks = c .before .before .before .before .before .before .before .before .before .before .before .before .before .asked in
+    let verdict = c .before .before .before .before .before .before .before .before .before .before .before .before .entry-verdict in
+    let sender = c .before .before .before .before .before .before .before .before .before .sender-of in
+    let at = c .before .before .before .before .before .before .before .before .place in
+    let state = c .before .before .before .before .before .before .with-reading in
+    let change = c .before .before .before .before .act in
+    let spoken = c .before .speaks .ensures in
+    let on = ⊎-elim
+    (λ w. keeps-same _ _ _ _ _ _ _ _ _ (w .15) (w .16) (w .17)
+    (run-spoke (now (A .sheet)) (A .g) (P .2) (P .1) (L .i) (L .states) (L .senders) (L .sent) (L .time) (L .inv .4) (read .result) (place .result) (from .result) (seat .result) (frame .result) (asks .result) (verdict .result)
+    (read .ensures) (place .ensures .0) (from .ensures) (frame .ensures) (seat .ensures) (asks .ensures) (verdict .ensures)
+    (c .before .before .before .before .before .before .before .before .before .before .enum-told .given .1) (sender .result) (at .result) (state .result) (change .result) (sender .ensures) (at .ensures .0) (state .ensures) (change .ensures)
+    (w .1 .result) (w .2 .result) (w .3 .result) (w .4 .result) (w .5 .result) (w .6 .result) (w .8 .result) (w .10 .result) (w .11 .result) (w .12 .result) (w .14 .result)
+    (w .1 .ensures) (w .2 .ensures) (w .3 .ensures) (w .4 .ensures) (w .5 .ensures) (w .6 .ensures .0) (w .8 .ensures .0) (w .10 .ensures) (w .11 .ensures) (w .12 .ensures .0) (w .14 .ensures)))
+    (λ w. keeps-same _ _ _ _ _ _ _ _ _ (w .1) (w .2) (w .3)
+    (run-quiet (now (A .sheet)) (A .g) (P .2) (P .1) (L .i) (L .states) (L .senders) (L .sent) (L .time) (L .inv .4) (read .result) (place .result) (from .result) (seat .result) (frame .result) (asks .result) (verdict .result)
+    (read .ensures) (place .ensures .0) (from .ensures) (frame .ensures) (seat .ensures) (asks .ensures) (verdict .ensures)
+    (c .before .before .before .before .before .before .before .before .before .before .enum-told .given .1) (sender .result) (at .result) (state .result) (change .result) (sender .ensures) (at .ensures .0) (state .ensures) (change .ensures)
+    (sym spoken ∙ w .0 .left)))
+    (c .if1 .came) in
+    let n = keeps-lengths _ _ _ _ _ _ on in
+    (omega (arith, c .before .before .before .before .before .before .before .before .before .before .before .before .before .before .before .before .before .before .before .before .before .before .before .loop-test .taken), n .0, n .1, n .2, on)
 
--- src/lib.rt:156:1
+records-of-requires : tie.Need-records-of-requires Inv-loop μ-loop
+records-of-requires c κs = heads-few _ _ (c .before .before .before .before .before .before .pre .1)
+
 returns-2 : tie.Need-returns-2 Inv-loop μ-loop
 returns-2 c =
-    let L = c .before .loop in
-    let A = c .before .before .before .before .args in
-    let P = c .before .before .before .before .pre in
-    run-ended _ (A .g) (L .i) (A .count) (L .records) (L .sent) (L .time) (P .2) (let le = L .inv .0 in omega (arith, c .loop-test .left)) (L .inv .3)
+    let L = c .before .before .loop in
+    let A = c .before .before .before .before .before .before .before .args in
+    let P = c .before .before .before .before .before .before .before .pre in
+    run-ended _ (A .g) (L .i) (A .count) (L .states) (L .senders) (L .sent) (L .time) (c .records-of .result) (P .2) (let le = L .inv .0 in omega (arith, c .before .loop-test .left)) (L .inv .4) (c .records-of .ensures)
 
 pub run-entries-spec : {M : Type 1} → statement M
 run-entries-spec =
@@ -222,37 +258,57 @@ run-entries-spec =
     (tie.spec
     Inv-loop
     μ-loop
-    fresh-records-requires
+    fresh-states-requires
+    no-sender-requires
+    no-sent-requires
     loop-holds
-    mul-at
-    add-at
-    mul-t
-    shared-slice-read-t
-    add-a
-    mul-a
-    shared-slice-read-a
-    add-w
-    mul-w
-    shared-slice-read-w
-    entry-of-requires
-    entry-fits-requires
-    seat-requires
-    mul-from
-    array-copy-out-from
+    read-entry-requires
     place-for-requires
     mul-slot
     array-copy-out-slot
-    delivered-frame-requires
+    seat-requires
+    mul-frame-for
+    array-copy-out-frame-for
+    frame-for-requires
     seat-requires-2
-    mul-step-with
-    array-copy-out-step-with
-    step-with-requires
+    mul-b
+    array-copy-out-b
+    asked-requires
+    entry-verdict-requires
     enum-known-v
+    mul-refused-at
+    add-refused-at
     refused-at-requires
     returns
     enum-told
-    mul-records
-    array-set-from-records
+    sender-of-requires
+    place-requires
+    with-reading-requires
+    mul-act
+    array-copy-out-act
+    act-requires
+    mul-senders
+    array-set-from-senders
+    mul-states
+    array-set-from-states
+    speaks-requires
+    row-of-requires
+    record-with-requires
+    said-requires
+    state-after-requires
+    mul-states-2
+    array-set-from-states-2
+    voted-for-requires
+    place-requires-2
+    mul-k
+    array-copy-out-k
+    place-requires-3
+    mul-keep-own
+    array-copy-out-keep-own
+    keep-own-requires
+    mul-senders-2
+    array-set-from-senders-2
+    frame-of-requires
     place-of-frame-requires
     mul-kept-frame
     array-copy-out-kept-frame
@@ -262,4 +318,5 @@ run-entries-spec =
     add-i
     loop-less
     loop-again
+    records-of-requires
     returns-2)

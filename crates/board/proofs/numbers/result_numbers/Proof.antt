@@ -5,37 +5,35 @@ use borrow.Author.Needs.{needs}
 use Rattle.board.proofs.numbers.result_numbers.Statement.{statement}
 use Rattle.board.proofs.numbers.result_numbers.Tie as tie
 
--- src/numbers.rt:149:9
 outcome-requires : tie.Need-outcome-requires
 outcome-requires c κs = search needs
 
--- src/numbers.rt:155:13
 number-or-0-requires : tie.Need-number-or-0-requires
 number-or-0-requires c κs = search needs
 
--- src/numbers.rt:156:13
+cast-candidate : tie.Need-cast-candidate
+cast-candidate c = search needs
+
 number-or-0-requires-2 : tie.Need-number-or-0-requires-2
 number-or-0-requires-2 c κs = search needs
 
--- src/numbers.rt:157:34
+cast-adjuster : tie.Need-cast-adjuster
+cast-adjuster c = search needs
+
 chosen-start-requires : tie.Need-chosen-start-requires
 chosen-start-requires c κs = search needs
 
--- src/numbers.rt:157:13
 reading-or-0-requires : tie.Need-reading-or-0-requires
 reading-or-0-requires c κs = search needs
 
--- src/numbers.rt:160:10
-cast-t13 : tie.Need-cast-t13
-cast-t13 c = search needs
+cast-t14 : tie.Need-cast-t14
+cast-t14 c = search needs
 
--- src/numbers.rt:146:1
 returns : tie.Need-returns
 returns c =
     let two = sym (c .before .before .before .before .before .before .before .outcome .ensures) ∙ c .before .before .before .before .if1 .taken in
     simp (two, c .reading-or-0 .ensures, c .before .chosen-start .ensures, c .before .before .number-or-02 .ensures, c .before .before .before .number-or-0 .ensures)
 
--- src/numbers.rt:146:1
 returns-2 : tie.Need-returns-2
 returns-2 c =
     let told = c .before .before .before .outcome .ensures in
@@ -47,9 +45,11 @@ result-numbers-spec =
     (tie.spec
     outcome-requires
     number-or-0-requires
+    cast-candidate
     number-or-0-requires-2
+    cast-adjuster
     chosen-start-requires
     reading-or-0-requires
-    cast-t13
+    cast-t14
     returns
     returns-2)

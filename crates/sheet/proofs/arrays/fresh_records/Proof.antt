@@ -2,14 +2,12 @@ use mathlib.Core.Path.{_≡_, refl}
 use Prim.Native.Nat.{ℕ, _-_, _≤_, _<_}
 use lib.ListN.{length, getD, length-set}
 use Rattle.protocol.specs.Record.{fresh}
-use Rattle.sheet.proofs.Tables.{is-table, fill-next, noRecord}
+use Rattle.sheet.specs.Bench.{noRecord}
+use Rattle.sheet.proofs.Tables.{is-table, fill-next}
 use native.Mathlib.Omega.{arith}
 use borrow.Author.Needs.{needs}
-use Rattle.sheet.proofs.fresh_records.Statement.{statement}
-use Rattle.sheet.proofs.fresh_records.Tie as tie
-use Rattle.sheet.proofs.fresh_records.Reads as reads
-use Rattle.sheet.proofs.fresh_records.Lts as lts
-use Rattle.fresh.proofs.fresh_record.Reads as fresh-record-reads
+use Rattle.sheet.proofs.arrays.fresh_records.Statement.{statement}
+use Rattle.sheet.proofs.arrays.fresh_records.Tie as tie
 
 abbrev Inv-loop : tie.InvT-loop
 Inv-loop n f l₀ i₀ l i = (i ≤ 16) × (length l ≡ 16) × ((k : ℕ) → k < i → getD l k noRecord ≡ fresh n f k)
@@ -17,39 +15,30 @@ Inv-loop n f l₀ i₀ l i = (i ≤ 16) × (length l ≡ 16) × ((k : ℕ) → k
 abbrev μ-loop : tie.MeasureT-loop
 μ-loop n f l₀ i₀ l i = 16 - i
 
--- src/lib.rt:84:18
 fresh-record-requires : tie.Need-fresh-record-requires Inv-loop μ-loop
 fresh-record-requires c κs = search needs
 
--- src/lib.rt:86:5
 loop-holds : tie.Need-loop-holds Inv-loop μ-loop
 loop-holds c = (search needs, refl, λ k lt. absurd (omega arith))
 
--- src/lib.rt:87:35
 cast-fresh-record : tie.Need-cast-fresh-record Inv-loop μ-loop
 cast-fresh-record c = search needs
 
--- src/lib.rt:87:16
 fresh-record-requires-2 : tie.Need-fresh-record-requires-2 Inv-loop μ-loop
 fresh-record-requires-2 c κs = search needs
 
--- src/lib.rt:87:9
 mul-l : tie.Need-mul-l Inv-loop μ-loop
 mul-l c = search needs
 
--- src/lib.rt:87:9
 array-set-from-l : tie.Need-array-set-from-l Inv-loop μ-loop
 array-set-from-l c = search needs
 
--- src/lib.rt:88:9
 add-i : tie.Need-add-i Inv-loop μ-loop
 add-i c = search needs
 
--- src/lib.rt:86:5
 loop-less : tie.Need-loop-less Inv-loop μ-loop
 loop-less c = search needs
 
--- src/lib.rt:86:5
 loop-again : tie.Need-loop-again Inv-loop μ-loop
 loop-again c =
     let a = c .before .before .before .before .args in
@@ -57,7 +46,6 @@ loop-again c =
     let inv = c .before .before .loop .inv in
     (omega arith, simp length-set (inv .1), fill-next (fresh (a .n) (a .f)) l (c .before .before .loop .i) (c .fresh-record2 .result) noRecord (omega arith) (c .fresh-record2 .ensures) (inv .2))
 
--- src/lib.rt:81:1
 returns : tie.Need-returns Inv-loop μ-loop
 returns c =
     let a = c .before .before .before .args in

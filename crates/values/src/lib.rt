@@ -1,0 +1,41 @@
+// A reading or a number that may be missing: whether it is there, and its value, 0 where there is none.
+use protocol::OptNumber;
+use protocol::OptReading;
+ghost use mathlib.Core.Path.{_≡_};
+ghost use Rattle.protocol.specs.Record.{isNumber, isReading, numberOr0, readingOr0};
+
+pub fn is_number(k: OptNumber) -> bool
+    ensures { λ b. ⌜ b ≡ isNumber k ⌝ }
+{
+    match k {
+        OptNumber::NoNumber => false,
+        OptNumber::SomeNumber(_) => true,
+    }
+}
+
+pub fn is_reading(k: OptReading) -> bool
+    ensures { λ b. ⌜ b ≡ isReading k ⌝ }
+{
+    match k {
+        OptReading::NoReading => false,
+        OptReading::SomeReading(_) => true,
+    }
+}
+
+pub fn number_or_0(x: OptNumber) -> u8
+    ensures { λ k. ⌜ k ≡ numberOr0 x ⌝ }
+{
+    match x {
+        OptNumber::NoNumber => 0,
+        OptNumber::SomeNumber(k) => k,
+    }
+}
+
+pub fn reading_or_0(x: OptReading) -> u32
+    ensures { λ t. ⌜ t ≡ readingOr0 x ⌝ }
+{
+    match x {
+        OptReading::NoReading => 0,
+        OptReading::SomeReading(t) => t.0,
+    }
+}
