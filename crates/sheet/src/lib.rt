@@ -1,4 +1,4 @@
-// A run sheet: the run of its entries, and the replay that fills a lent buffer.
+// A run sheet: the verdict on its first words, and the run of its entries.
 mod arrays;
 
 ghost use mathlib.Core.Path.{_≡_};
@@ -8,7 +8,6 @@ ghost use Rattle.protocol.specs.Run.{runOf};
 ghost use Rattle.protocol.specs.Words.{headsFit};
 ghost use Prim.Native.Nat.{_+_, _*_, _%_, _≤_, _<_};
 ghost use mathlib.Core.Bool.{true};
-ghost use mathlib.Core.List.{[]};
 ghost use lib.ListN.{length};
 ghost use Rattle.protocol.specs.Run.{stopped};
 ghost use Rattle.entries.specs.Entries.{deliveredFrame};

@@ -1,6 +1,7 @@
 // The words of a run sheet, taken apart and tested: document 01, "Words of a run sheet".
 // Bits HIGH–LOW of a word are the word shifted right by LOW, modulo 2 to the number of those bits.
-// The parts of a test are joined by `&` and `|`: each part is total, and costs less than a branch.
+// The parts of a test are joined by `&` and `|`: each part is total, and costs less than a branch; but those of
+// `entry_fits` by `&&`, since nearly every entry passes all of them, and a part that passes costs less so.
 ghost use mathlib.Core.Path.{_≡_};
 ghost use Prim.Native.Nat.{_^_};
 ghost use lib.Dec.{ltb};
@@ -124,12 +125,12 @@ pub fn entry_fits(n: u8, t: u32, a: u32, w: u32) -> bool
     ensures { λ r. ⌜ r ≡ entryFits n t a w ⌝ }
 {
     let e = entry_of(t, a, w);
-    (kind(t) == 3)
-        & ((kind(a) == 4)
-            & ((kind(w) == 5)
-                & ((w % 4096 == 0)
-                    & ((e.action <= 9)
-                        & ((e.head < n)
-                            & ((e.sender < n)
-                                & zero_where_unused(e.action, e.sender, e.serial)))))))
+    kind(t) == 3
+        && (kind(a) == 4
+            && (kind(w) == 5
+                && (w % 4096 == 0
+                    && (e.action <= 9
+                        && (e.head < n
+                            && (e.sender < n
+                                && zero_where_unused(e.action, e.sender, e.serial)))))))
 }
