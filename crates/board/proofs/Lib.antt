@@ -1,4 +1,3 @@
 -- What the proofs of several functions use.
 mod Stored
-mod Signed
 pub mod Kept

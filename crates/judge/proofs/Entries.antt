@@ -1,30 +1,29 @@
 -- What one more entry changes in what the judge keeps.
-use mathlib.Core.Path.{_≡_, refl, sym, _∙_, ap, ap₂, subst}
+use mathlib.Core.Path.{_≡_, refl, sym, _∙_, ap, ap₂}
 use mathlib.Core.Bool.{Bool, true, false, cond, not, _&&_, _||_}
-use mathlib.Core.List.{List, [], _∷_}
-use Prim.Native.Nat.{ℕ, zero, suc, _+_, _*_, _/_, _%_, _^_, _≤_, _<_}
+use mathlib.Core.List.{_∷_}
+use Prim.Native.Nat.{ℕ, _+_, _*_, _/_, _%_, _^_, _≤_, _<_}
 use native.Mathlib.Omega.{arith}
-use lib.Dec.{ltb, leb, eqb}
-use lib.ListN.{length, getD, set, length-set}
-use lib.Seq.{getD-set-same, getD-set-other}
+use lib.Dec.{leb, eqb}
+use lib.ListN.{getD, set}
 use lib.IntN.{ℤ, pos}
 use borrow.Author.Tests.{eqb-true, eqb-false, eq-eqb, ne-eqb}
 use Rattle.protocol.specs.declared.HeadRecord.{HeadRecord}
 use Rattle.protocol.specs.declared.Setting.{Setting}
 use Rattle.protocol.specs.declared.Entry.{Entry}
 use Rattle.protocol.specs.declared.Frame.{Frame}
-use Rattle.protocol.specs.Base.{_⇒_, any, all, distance}
+use Rattle.protocol.specs.Base.{_⇒_, any, distance}
 use Rattle.protocol.specs.Words.{isCorrect}
 use Rattle.protocol.specs.Run.{Event, History}
-use Rattle.protocol.specs.Premises.{took, received, each, before, lastStart, isSteady, correctAll, correctTakes, startHeard, premise2, premise3, premise5, premise7, votesHeard, adjustsHeard, quietBetween}
-use Rattle.protocol.proofs.Tests.{cases, eqb-same, and-left, and-right, absurd-bool}
+use Rattle.protocol.specs.Premises.{took, received, each, before, lastStart, correctAll, correctTakes, startHeard, premise2, premise3, quietBetween}
+use Rattle.protocol.proofs.Tests.{cases, and-left, and-right}
 use Rattle.sets.specs.Sets.{setOf, withHead, hasHead, hasAll}
 use Rattle.sets.proofs.Sets.{set-with, set-ext, same-test}
 use Rattle.premises.specs.declared.Watch.{Watch}
-use Rattle.premises.specs.Drift.{leadOf, lagOf, lesserOf, staysSteady}
+use Rattle.drift.specs.Drift.{leadOf, lagOf, lesserOf, staysSteady}
 use Rattle.premises.specs.Between.{watchAfter}
-use Rattle.premises.specs.Starts.{startPlace, startTime, timeAt, earliest, latest, withinTightness, confirmHeard, startHeardAt}
-use Rattle.premises.specs.Frames.{receiversPlace}
+use Rattle.starts.specs.Starts.{startPlace, startTime, timeAt, withinTightness, startHeardAt}
+use Rattle.reached.specs.Frames.{receiversPlace}
 use Rattle.sheet.specs.Bench.{table}
 use Rattle.sheet.proofs.Tables.{table-at, set-table}
 use Rattle.judge.specs.Seen.{tookSets, receiverSets, startTimes, leastOf, leads, lags, watchOf}

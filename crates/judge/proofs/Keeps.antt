@@ -2,12 +2,11 @@
 use mathlib.Core.Path.{_≡_, refl, sym, _∙_, ap, ap₂, subst}
 use mathlib.Core.Bool.{Bool, true, false, not, _&&_}
 use mathlib.Core.List.{List, [], _∷_}
-use Prim.Native.Nat.{ℕ, suc, _+_, _-_, _*_, _%_, _^_, _≤_, _<_}
-use native.Mathlib.Numerals.{add-one}
+use Prim.Native.Nat.{ℕ, suc, _+_, _-_, _%_, _^_, _≤_, _<_}
 use native.Mathlib.Nat.{le-trans}
 use native.Mathlib.Omega.{arith}
 use lib.Dec.{eqb}
-use lib.ListN.{length, getD, set, replicate, length-set, length-replicate, getD-replicate}
+use lib.ListN.{length, getD, set, replicate, length-replicate, getD-replicate}
 use lib.IntN.{ℤ, pos}
 use Rattle.protocol.specs.declared.HeadRecord.{HeadRecord}
 use Rattle.protocol.specs.declared.Setting.{Setting}
@@ -16,25 +15,25 @@ use Rattle.protocol.specs.declared.Frame.{Frame}
 use Rattle.protocol.specs.declared.Frame.the-variants.{NoFrame, Start, Vote, Adjust}
 use Rattle.protocol.specs.Base.{_⇒_, any}
 use Rattle.protocol.specs.Words.{isCorrect, headsFit, settingAt, entryOf, entryAt}
-use Rattle.protocol.specs.Run.{Event, History, frameOf, lastTime, ran, runOf}
+use Rattle.protocol.specs.Run.{History, frameOf, lastTime, ran, runOf}
 use Rattle.protocol.specs.Premises.{receives, lastStart, correctTakes, each, quietBetween, premise2, premise3, premise5, premise7, votesHeard, adjustsHeard}
 use Rattle.protocol.proofs.Tests.{cond-elim}
 use Rattle.protocol.proofs.Moments.{Earlier, earlier-past}
 use Rattle.protocol.proofs.Effects.{deliveredBy, serialOf}
-use Rattle.protocol.proofs.Valid.{Taken, Valid, start, more, valid-run, valid-past, valid-taken}
+use Rattle.protocol.proofs.Valid.{Valid, start, more, valid-run, valid-past, valid-taken}
 use Rattle.sets.specs.Sets.{withHead}
 use Rattle.premises.specs.declared.Watch.{Watch}
-use Rattle.premises.specs.Drift.{leadOf, lagOf, lesserOf, staysSteady}
+use Rattle.drift.specs.Drift.{leadOf, lagOf, lesserOf, staysSteady}
 use Rattle.premises.specs.Between.{watchAfter}
-use Rattle.premises.specs.Starts.{startPlace, startTime, startHeardAt}
-use Rattle.premises.specs.Frames.{receiversPlace, phaseHeard}
+use Rattle.starts.specs.Starts.{startPlace, startTime, startHeardAt}
+use Rattle.reached.specs.Frames.{receiversPlace, phaseHeard}
 use Rattle.sheet.specs.Bench.{table}
 use Rattle.sheet.proofs.Tables.{is-table}
 use Rattle.judge.specs.declared.pass.Seen.{Seen}
 use Rattle.judge.specs.Seen.{historyOf, tookSets, receiverSets, startTimes, leastOf, leads, lags, votesOf, adjustsOf, seenOf, sendingEntries}
 use Rattle.judge.proofs.Steady.{Until}
 use Rattle.judge.proofs.Heads.{Heads}
-use Rattle.judge.proofs.Moments.{same-history, Last, last-of, Moment, moment, run-length}
+use Rattle.judge.proofs.Moments.{same-history, last-of, moment, run-length}
 use Rattle.judge.proofs.Reached.{votes-heard, adjusts-heard}
 use Rattle.judge.proofs.Entries.{took-next, receivers-next, started-next, least-next, steady-next, heard-next, watch-next}
 

@@ -1,20 +1,19 @@
 -- The moments of an accepted run.
 use mathlib.Core.Path.{_≡_, refl, sym, _∙_, ap, subst}
-use mathlib.Core.List.{List, [], _∷_}
-use Prim.Native.Nat.{ℕ, zero, suc, _+_, _-_, _≤_, _<_}
+use mathlib.Core.List.{List, _∷_}
+use Prim.Native.Nat.{ℕ, zero, suc, _+_, _-_}
 use native.Mathlib.Omega.{arith}
 use lib.ListN.{length}
 use Rattle.protocol.specs.declared.HeadRecord.{HeadRecord}
-use Rattle.protocol.specs.declared.Entry.{Entry}
 use Rattle.protocol.specs.declared.Frame.{Frame}
 use Rattle.protocol.specs.declared.Cause.{Cause}
 use Rattle.protocol.specs.declared.Stepped.{Stepped}
 use Rattle.protocol.specs.declared.Verdict.{Verdict}
 use Rattle.protocol.specs.declared.Verdict.the-variants.{Accepted, Refused}
 use Rattle.protocol.specs.Words.{settingAt, placeOf, entryAt, entryFitsAt}
-use Rattle.protocol.specs.Run.{Event, History, stepEntry, Run, stopped, ran, extend, andThen, runOf}
+use Rattle.protocol.specs.Run.{History, stepEntry, Run, stopped, ran, extend, andThen, runOf}
 use Rattle.protocol.proofs.Moments.{Earlier, now, later}
-use Rattle.judge.specs.Seen.{eventsOf, historyOf}
+use Rattle.judge.specs.Seen.{eventsOf}
 
 no-ran : {A : Type 0} (c : Cause) (p : ℕ) (h : History) → stopped c p ≡ ran h → A
 no-ran c p h e = absurd (let z : _≡_ {A = ℕ} 0 1 = cc in omega arith)

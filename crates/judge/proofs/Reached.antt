@@ -1,7 +1,6 @@
 -- Premises 5 and 7 of the entries before a moment, by the sets and the sending entries that the judge keeps.
-use mathlib.Core.Path.{_≡_, refl, sym, _∙_, ap, ap₂, subst}
-use mathlib.Core.Bool.{Bool, true, false, cond, not, _&&_, _||_}
-use mathlib.Core.List.{List, [], _∷_}
+use mathlib.Core.Path.{_≡_, refl, sym, _∙_, ap, ap₂}
+use mathlib.Core.Bool.{Bool, true, false, not, _&&_, _||_}
 use Prim.Native.Nat.{ℕ, _+_, _*_, _/_, _%_, _^_, _≤_, _<_}
 use native.Mathlib.Omega.{arith}
 use lib.Dec.{ltb, eqb}
@@ -10,18 +9,18 @@ use borrow.Author.Tests.{lt-ltb, le-ltb, ltb-true}
 use Rattle.protocol.specs.declared.Setting.{Setting}
 use Rattle.protocol.specs.Base.{_⇒_, allBelow}
 use Rattle.protocol.specs.Words.{isCorrect, headsFit}
-use Rattle.protocol.specs.Run.{Event, History, recordOf, frameSent, isFrame}
+use Rattle.protocol.specs.Run.{History}
 use Rattle.protocol.specs.Premises.{took, received, correctAll, reached, votesHeard, adjustsHeard}
 use Rattle.protocol.proofs.Tests.{implied, all-below, below-all}
 use Rattle.protocol.proofs.Moments.{Earlier}
-use Rattle.protocol.proofs.Effects.{Kind, votes, adjusts, phaseOf, delivery}
+use Rattle.protocol.proofs.Effects.{Kind, votes, adjusts, delivery}
 use Rattle.protocol.proofs.Valid.{Valid}
 use Rattle.protocol.proofs.Ranges.{votes-below}
 use Rattle.protocol.proofs.Phases.{sent}
 use Rattle.sets.specs.Sets.{setOf, withHead, hasHead, hasAll}
 use Rattle.sets.proofs.Sets.{set-with, set-has, set-ext, same-test}
-use Rattle.premises.specs.Frames.{receiversPlace, sendingPlace, frameReached, tookIn, tookPart, startReached, phaseTaken, headReached}
-use Rattle.sheet.specs.Bench.{table, actionAt, headAt, serialAt}
+use Rattle.reached.specs.Frames.{receiversPlace, sendingPlace, frameReached, tookIn, tookPart, startReached, phaseTaken, headReached}
+use Rattle.sheet.specs.Bench.{actionAt, headAt, serialAt}
 use Rattle.sheet.proofs.Tables.{table-at}
 use Rattle.judge.specs.Seen.{tookSets, receiverSets, sendingEntry, sendingEntries}
 use Rattle.judge.proofs.Heads.{Heads, all-correct}

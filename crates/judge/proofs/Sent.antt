@@ -1,12 +1,12 @@
 -- The frames that a head sent by a moment of the run, by the entries that sent them.
-use mathlib.Core.Path.{_≡_, refl, sym, _∙_, ap, ap₂, subst}
+use mathlib.Core.Path.{_≡_, refl, sym, _∙_, ap, subst}
 use mathlib.Core.Bool.{Bool, true, false, cond, _&&_}
-use mathlib.Core.List.{List, [], _∷_}
-use Prim.Native.Nat.{ℕ, zero, suc, _≤_, _<_}
+use mathlib.Core.List.{[], _∷_}
+use Prim.Native.Nat.{ℕ, suc, _≤_, _<_}
 use native.Mathlib.Omega.{arith}
 use lib.Dec.{ltb, eqb}
 use lib.ListN.{length}
-use borrow.Author.Tests.{lt-ltb, le-ltb, ltb-true, ltb-false, eqb-true, eqb-false, eq-eqb}
+use borrow.Author.Tests.{lt-ltb, le-ltb, ltb-true, eqb-false}
 use Rattle.protocol.specs.declared.OptNumber.{OptNumber}
 use Rattle.protocol.specs.declared.OptNumber.the-variants.{NoNumber, SomeNumber}
 use Rattle.protocol.specs.declared.Setting.{Setting}
@@ -17,8 +17,8 @@ use Rattle.protocol.specs.Run.{Event, History, recordOf, orElse, isDeliveredBy,
 use Rattle.protocol.proofs.Tests.{absurd-bool, cases}
 use Rattle.protocol.proofs.Moments.{Earlier, now, later}
 use Rattle.protocol.proofs.Effects.{Kind, votes, adjusts, phaseOf, delivery, named}
-use Rattle.protocol.proofs.Valid.{Taken, Valid, start, more, by-head, frame-fits}
-use Rattle.protocol.proofs.Phases.{orNumber, names, sent, names-other, sent-other, Turn, quiet, spoke, turn, serial-below, unsent, frame-stays}
+use Rattle.protocol.proofs.Valid.{Valid, start, more, by-head, frame-fits}
+use Rattle.protocol.proofs.Phases.{orNumber, names, sent, names-other, sent-other, Turn, quiet, spoke, turn, serial-below}
 use Rattle.sheet.specs.Bench.{sentAt}
 use Rattle.sets.proofs.Sets.{same-test}
 use Rattle.judge.specs.Seen.{sendingEntry}

@@ -1,5 +1,5 @@
 -- Premise 3 at an entry: every two last deliveries lie within the tightness if the earliest and the latest do.
-use mathlib.Core.Path.{_≡_, refl, sym, _∙_, ap, ap₂, subst}
+use mathlib.Core.Path.{_≡_, refl, sym, ap₂, subst}
 use mathlib.Core.Bool.{Bool, true, false, cond}
 use Prim.Native.Nat.{ℕ, zero, suc, _+_, _^_, _≤_, _<_}
 use native.Mathlib.Nat.{not-suc-le-zero}
@@ -8,7 +8,7 @@ use lib.Dec.{ltb, leb, eqb}
 use borrow.Author.Tests.{ltb-true, ltb-false, leb-true, le-leb, eqb-true, eqb-false}
 use Rattle.protocol.specs.Base.{_⇒_, allBelow, distance}
 use Rattle.protocol.proofs.Tests.{cases, all-below, below-all, implied, absurd-bool}
-use Rattle.premises.specs.Starts.{earlierOf, laterOf, earliest, latest}
+use Rattle.starts.specs.Starts.{earlierOf, laterOf, earliest, latest}
 use Rattle.sets.proofs.Sets.{same-test}
 
 -- the first and the last of a list of times are among them

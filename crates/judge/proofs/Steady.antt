@@ -1,8 +1,8 @@
 -- Premise 2 of an entry with all of its head's entries before it, by the least lead and the least lag.
-use mathlib.Core.Path.{_≡_, refl, sym, _∙_, ap, ap₂, subst}
+use mathlib.Core.Path.{_≡_, refl, sym, _∙_, ap, ap₂}
 use mathlib.Core.Bool.{Bool, true, false, cond, _&&_}
-use mathlib.Core.List.{List, [], _∷_}
-use Prim.Native.Nat.{ℕ, zero, suc, _+_, _-_, _*_, _^_, _≤_, _<_}
+use mathlib.Core.List.{[], _∷_}
+use Prim.Native.Nat.{ℕ, suc, _+_, _-_, _*_, _^_, _≤_, _<_}
 use native.Mathlib.Nat.{mul-add, add-mul}
 use native.Mathlib.Omega.{arith}
 use lib.Dec.{ltb, leb, eqb}
@@ -11,10 +11,10 @@ use lib.Signed.{ltZ, leZ}
 use borrow.Author.Tests.{lt-ltb, le-ltb, le-leb, lt-leb, ltb-true, ltb-false, leb-true, leb-false}
 use Rattle.protocol.specs.declared.Entry.{Entry}
 use Rattle.protocol.specs.Base.{_⇒_, all, distance}
-use Rattle.protocol.specs.Run.{Event, History}
+use Rattle.protocol.specs.Run.{History}
 use Rattle.protocol.specs.Premises.{isSteady}
 use Rattle.protocol.proofs.Tests.{cases, and-both, and-left, and-right}
-use Rattle.premises.specs.Drift.{leadOf, lagOf, lesserOf}
+use Rattle.drift.specs.Drift.{leadOf, lagOf, lesserOf}
 use Rattle.sets.proofs.Sets.{same-test}
 use Rattle.judge.specs.Seen.{leastOf}
 

@@ -2,7 +2,7 @@
 use mathlib.Core.Path.{_≡_, refl, sym, _∙_, ap, ap₂, subst}
 use mathlib.Core.Bool.{Bool, true, false, _&&_, cond}
 use mathlib.Core.List.{List, [], _∷_}
-use Prim.Native.Nat.{ℕ, _+_, _-_, _*_, _/_, _≤_, _<_, min}
+use Prim.Native.Nat.{ℕ, _+_, _-_, _*_, _≤_, min}
 use native.Mathlib.Omega.{arith}
 use lib.Bits.{bitAnd}
 use lib.ListN.{length, getD}
@@ -15,19 +15,19 @@ use Rattle.protocol.specs.declared.Frame.the-variants.{NoFrame}
 use Rattle.protocol.specs.declared.Verdict.{Verdict}
 use Rattle.protocol.specs.declared.Verdict.the-variants.{Accepted, Refused}
 use Rattle.protocol.specs.declared.Judged.{Judged}
-use Rattle.protocol.specs.declared.Judged.the-variants.{Kept, Unjudged}
+use Rattle.protocol.specs.declared.Judged.the-variants.{Unjudged}
 use Rattle.protocol.specs.declared.Replayed.the-variants.{Filled, TurnedBack}
 use Rattle.protocol.specs.Words.{headsFit, firstWordFits, settingAt, entryCount}
 use Rattle.protocol.specs.Causes.{sheetVerdict}
 use Rattle.protocol.specs.Run.{History, isFrame, Run, stopped, ran, runOf, afterVerdict, runSheet}
 use Rattle.protocol.specs.Premises.{took, premise1, premise2, premise3, premise4, premise5, premise6, premise7, premise8, premises, firstBroken, judgeRun, judge}
-use Rattle.protocol.proofs.Fits.{FittingSheet, sheet-fits}
+use Rattle.protocol.proofs.Fits.{sheet-fits}
 use Rattle.protocol.proofs.ThirdPoint.{third-point}
 use Rattle.protocol.proofs.ResultWords.{agreement-in-words}
 use Rattle.protocol.specs.Results.{wordsPerHead, fill, fillAfter, replay}
 use Rattle.sets.specs.Sets.{setOf, hasAll}
 use Rattle.sets.proofs.Sets.{set-and}
-use Rattle.premises.specs.Frames.{tookAll}
+use Rattle.premises.specs.Ended.{tookAll}
 use Rattle.sheet.specs.declared.Sent.{Sent}
 use Rattle.sheet.specs.declared.Ran.{Ran}
 use Rattle.sheet.specs.Bench.{table, sentOf, benchOf, answerOf, runFirst}

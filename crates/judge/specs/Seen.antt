@@ -11,7 +11,7 @@ use Rattle.protocol.specs.Run.{History, frameSent, isFrame, Run, stopped, ran, 
 use Rattle.protocol.specs.Premises.{took, received, lastStart, each, correctTakes, premise2, premise3, premise5, premise7, quietBetween}
 use Rattle.sets.specs.Sets.{setOf}
 use Rattle.premises.specs.declared.Watch.{Watch}
-use Rattle.premises.specs.Drift.{leadOf, lagOf, lesserOf}
+use Rattle.drift.specs.Drift.{leadOf, lagOf, lesserOf}
 use Rattle.protocol.specs.declared.Frame.the-variants.{NoFrame}
 use lib.ListN.{getD}
 use Rattle.sheet.specs.declared.Sent.{Sent}

@@ -1,27 +1,28 @@
 // One pass over the entries of an accepted sheet: all that the premises ask of them.
 ghost use mathlib.Core.Path.{_≡_};
-ghost use Prim.Native.Nat.{_+_, _*_, _%_, _≤_};
+ghost use Prim.Native.Nat.{_+_, _*_, _≤_};
 ghost use mathlib.Core.Bool.{true, false, cond};
 ghost use lib.ListN.{length, getD};
 ghost use Rattle.protocol.specs.Words.{headsFit, settingAt, firstWordFits};
 ghost use Rattle.protocol.specs.Run.{isFrame, ran, runOf};
 ghost use Rattle.judge.specs.Seen.{historyOf, seenOf, sendingOf, sendingEntries};
+use actions::seat;
+use drift::lag;
+use drift::lead;
+use drift::lesser;
+use drift::stays_steady;
 use entries::is_frame;
 use premises::Watch;
-use premises::lag;
-use premises::lead;
-use premises::lesser;
-use premises::phase_heard;
-use premises::receivers_place;
-use premises::start_heard;
-use premises::start_place;
-use premises::start_time;
-use premises::stays_steady;
 use premises::watch_after;
 use protocol::Frame;
 use protocol::Setting;
+use reached::phase_heard;
+use reached::receivers_place;
 use sets::with_head;
 use sheet::Sent;
+use starts::start_heard;
+use starts::start_place;
+use starts::start_time;
 use words::entry_of;
 use words::is_correct;
 
@@ -35,13 +36,6 @@ pub struct Seen {
     pub heard: bool,
     pub votes: Watch,
     pub adjusts: Watch,
-}
-
-// The place of head or action p.
-fn seat(p: u8) -> usize
-    ensures { λ i. ⌜ i ≡ p % 16 ⌝ }
-{
-    (p % 16) as usize
 }
 
 // The index of the entry that sent a frame; 4,096, past any index, where there is none.

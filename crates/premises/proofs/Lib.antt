@@ -1,2 +1,2 @@
-pub mod Loops
-pub mod Signed
+pub mod Counts
+pub mod Watched

@@ -1,4 +1,2 @@
-pub mod Drift
 pub mod Between
-pub mod Starts
-pub mod Frames
+pub mod Ended

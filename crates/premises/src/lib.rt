@@ -1,21 +1,8 @@
-// The eight premises, each as it is tested at one entry or at the end: over sets of heads, real times and least
-// differences that are kept of the entries so far, and not over the entries themselves.
-mod drift;
-mod frames;
-mod starts;
-
-pub use drift::lag;
-pub use drift::lead;
-pub use drift::lesser;
-pub use drift::stays_steady;
-pub use frames::phase_heard;
-pub use frames::receivers_place;
+// The premises that are tested at the end, what is kept for premises 5 to 8 from one entry to the next, and the first
+// broken premise.
 use protocol::Judged;
 use protocol::Setting;
 use sets::has_all;
-pub use starts::start_heard;
-pub use starts::start_place;
-pub use starts::start_time;
 use words::is_correct;
 ghost use mathlib.Core.Path.{_≡_};
 ghost use mathlib.Core.Bool.{cond};
@@ -25,7 +12,7 @@ ghost use Rattle.protocol.specs.Premises.{premise1, firstBroken};
 ghost use Rattle.protocol.specs.Base.{countBelow};
 ghost use Rattle.protocol.specs.Words.{isCorrect};
 ghost use Rattle.premises.specs.Between.{watchAfter};
-ghost use Rattle.premises.specs.Frames.{tookAll};
+ghost use Rattle.premises.specs.Ended.{tookAll};
 
 // What is kept for premises 5 and 6, or for 7 and 8: whether a correct head has closed the phase; whether no frame reached
 // a correct head since then; and whether each of the two premises has been kept so far.

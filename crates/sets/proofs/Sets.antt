@@ -10,7 +10,7 @@ use lib.Bits.{bitAnd, bitOr, and-block, or-block, block-odd}
 use borrow.Author.Tests.{eqb-true, eqb-false, eq-eqb, ne-eqb}
 use Rattle.protocol.specs.Base.{_⇒_, allBelow}
 use Rattle.protocol.proofs.Tests.{cases, all-below, below-all}
-use Rattle.sets.specs.Sets.{setBelow, setOf, withHead, hasHead, hasAll}
+use Rattle.sets.specs.Sets.{setBelow, setOf, withHead, hasAll}
 
 pub one-bit : (k : ℕ) → k < 16 → 1 * 2 ^ k % 65536 ≡ 2 ^ k
 one-bit k h = shl-exact 1 k 16 (omega arith) (omega arith) ∙ one-mul (2 ^ k)

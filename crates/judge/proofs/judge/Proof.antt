@@ -10,15 +10,6 @@ use native.Mathlib.Omega.{arith}
 use borrow.Author.Needs.{needs}
 use Rattle.judge.proofs.judge.Statement.{statement}
 use Rattle.judge.proofs.judge.Tie as tie
-use Rattle.judge.proofs.judge.Reads as reads
-use Rattle.judge.proofs.judge.Lts as lts
-use Rattle.judge.proofs.pass.sending_entries.Reads as sending-entries-reads
-use Rattle.judge.proofs.pass.watch.Reads as watch-reads
-use Rattle.premises.proofs.enough_correct.Reads as enough-correct-reads
-use Rattle.premises.proofs.first_broken.Reads as first-broken-reads
-use Rattle.premises.proofs.took_all.Reads as took-all-reads
-use Rattle.sheet.proofs.run.Reads as run-reads
-use Rattle.words.proofs.setting_of.Reads as setting-of-reads
 
 -- src/lib.rt:29:9
 run-requires : tie.Need-run-requires

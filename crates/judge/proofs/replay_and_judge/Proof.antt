@@ -3,14 +3,9 @@ use denote.Ref.{now}
 use Rattle.judge.specs.declared.Report.{Report}
 use Rattle.judge.specs.Claims.{AgreesInWords}
 use Rattle.judge.proofs.Verdicts.{claim-in-words}
-use native.Mathlib.Omega.{arith}
 use borrow.Author.Needs.{needs}
 use Rattle.judge.proofs.replay_and_judge.Statement.{statement}
 use Rattle.judge.proofs.replay_and_judge.Tie as tie
-use Rattle.judge.proofs.replay_and_judge.Reads as reads
-use Rattle.judge.proofs.replay_and_judge.Lts as lts
-use Rattle.judge.proofs.judge.Reads as judge-reads
-use Rattle.results.proofs.replay.Reads as replay-reads
 
 -- src/lib.rt:62:9
 replay-requires : tie.Need-replay-requires

@@ -3,15 +3,11 @@ use mathlib.Core.Bool.{Bool, cond}
 use Prim.Native.Nat.{ℕ, _+_, _-_, _≤_}
 use Rattle.protocol.specs.Base.{countBelow}
 use Rattle.protocol.specs.Words.{isCorrect}
-use Rattle.premises.proofs.Loops.{count-more, cond-below}
+use Rattle.premises.proofs.Counts.{count-more, cond-below}
 use native.Mathlib.Omega.{arith}
 use borrow.Author.Needs.{needs}
 use Rattle.premises.proofs.correct_heads.Statement.{statement}
 use Rattle.premises.proofs.correct_heads.Tie as tie
-use Rattle.premises.proofs.correct_heads.Reads as reads
-use Rattle.premises.proofs.correct_heads.Lts as lts
-use Rattle.premises.proofs.one_if.Reads as one-if-reads
-use Rattle.words.proofs.is_correct.Reads as is-correct-reads
 
 abbrev Inv-loop : tie.InvT-loop
 Inv-loop g k₀ q₀ k q = (q ≤ g .n) × (k ≤ q) × (k ≡ countBelow q (isCorrect g))

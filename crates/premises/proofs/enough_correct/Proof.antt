@@ -1,14 +1,10 @@
 use Rattle.protocol.specs.Base.{countBelow}
 use Rattle.protocol.specs.Words.{isCorrect}
 use Rattle.protocol.specs.Premises.{premise1}
-use Rattle.premises.proofs.Loops.{leb-minus}
-use native.Mathlib.Omega.{arith}
+use Rattle.premises.proofs.Counts.{leb-minus}
 use borrow.Author.Needs.{needs}
 use Rattle.premises.proofs.enough_correct.Statement.{statement}
 use Rattle.premises.proofs.enough_correct.Tie as tie
-use Rattle.premises.proofs.enough_correct.Reads as reads
-use Rattle.premises.proofs.enough_correct.Lts as lts
-use Rattle.premises.proofs.correct_heads.Reads as correct-heads-reads
 
 -- src/lib.rt:71:5
 cast-result : tie.Need-cast-result

@@ -1,11 +1,7 @@
 use Rattle.protocol.proofs.Tests.{not-true, not-false}
 use Rattle.protocol.specs.Premises.{firstBroken}
-use native.Mathlib.Omega.{arith}
-use borrow.Author.Needs.{needs}
 use Rattle.premises.proofs.first_broken.Statement.{statement}
 use Rattle.premises.proofs.first_broken.Tie as tie
-use Rattle.premises.proofs.first_broken.Reads as reads
-use Rattle.premises.proofs.first_broken.Lts as lts
 
 -- src/lib.rt:81:9
 returns : tie.Need-returns

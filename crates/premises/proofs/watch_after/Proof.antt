@@ -1,10 +1,6 @@
-use Rattle.premises.proofs.Loops.{watch-is}
-use native.Mathlib.Omega.{arith}
-use borrow.Author.Needs.{needs}
+use Rattle.premises.proofs.Watched.{watch-is}
 use Rattle.premises.proofs.watch_after.Statement.{statement}
 use Rattle.premises.proofs.watch_after.Tie as tie
-use Rattle.premises.proofs.watch_after.Reads as reads
-use Rattle.premises.proofs.watch_after.Lts as lts
 
 -- src/lib.rt:37:1
 returns : tie.Need-returns

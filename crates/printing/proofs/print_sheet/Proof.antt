@@ -7,13 +7,6 @@ use native.Mathlib.Omega.{arith}
 use borrow.Author.Needs.{needs}
 use Rattle.printing.proofs.print_sheet.Statement.{statement}
 use Rattle.printing.proofs.print_sheet.Tie as tie
-use Rattle.printing.proofs.print_sheet.Reads as reads
-use Rattle.printing.proofs.print_sheet.Lts as lts
-use Rattle.judge.proofs.replay_and_judge.Reads as replay-and-judge-reads
-use Rattle.printing.proofs.premise_number.Reads as premise-number-reads
-use Rattle.printing.proofs.put_refused.Reads as put-refused-reads
-use Rattle.printing.proofs.put_results.Reads as put-results-reads
-use Rattle.words.proofs.setting_of.Reads as setting-of-reads
 
 -- src/lib.rt:118:42
 slice-aggregate-replay-and-judge : tie.Need-slice-aggregate-replay-and-judge

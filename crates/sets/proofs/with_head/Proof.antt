@@ -1,5 +1,5 @@
 use mathlib.Core.Path.{ap}
-use Prim.Native.Nat.{ℕ, _%_}
+use Prim.Native.Nat.{_%_}
 use native.Mathlib.Nat.{mod-lt}
 use native.Mathlib.Omega.{arith}
 use lib.Bits.{bitOr}
@@ -7,8 +7,6 @@ use Rattle.sets.proofs.Sets.{one-bit}
 use borrow.Author.Needs.{needs}
 use Rattle.sets.proofs.with_head.Statement.{statement}
 use Rattle.sets.proofs.with_head.Tie as tie
-use Rattle.sets.proofs.with_head.Reads as reads
-use Rattle.sets.proofs.with_head.Lts as lts
 
 -- src/lib.rt:9:15
 cast-result : tie.Need-cast-result

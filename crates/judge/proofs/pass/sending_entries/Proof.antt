@@ -7,9 +7,6 @@ use native.Mathlib.Omega.{arith}
 use borrow.Author.Needs.{needs}
 use Rattle.judge.proofs.pass.sending_entries.Statement.{statement}
 use Rattle.judge.proofs.pass.sending_entries.Tie as tie
-use Rattle.judge.proofs.pass.sending_entries.Reads as reads
-use Rattle.judge.proofs.pass.sending_entries.Lts as lts
-use Rattle.judge.proofs.pass.sending_entry.Reads as sending-entry-reads
 
 abbrev Inv-loop : tie.InvT-loop
 Inv-loop sent l₀ j₀ l j = (j ≤ 512) × (length l ≡ 512) × ((k : ℕ) → k < j → getD l k 0 ≡ sendingAt sent k)

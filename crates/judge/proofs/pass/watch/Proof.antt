@@ -10,30 +10,13 @@ use mir.Val.{SFits, toZ, ofZ}
 use mir.Facts.{toZ-ofZ}
 use Rattle.protocol.specs.declared.Setting.{Setting}
 use Rattle.protocol.specs.Words.{headsFit}
-use Rattle.premises.specs.Drift.{staysSteady, lesserOf}
+use Rattle.drift.specs.Drift.{staysSteady, lesserOf}
 use Rattle.judge.proofs.Heads.{Heads, heads-of}
 use Rattle.judge.proofs.Keeps.{Keeps, first-keeps, keeps-next, keeps-last}
 use native.Mathlib.Omega.{arith}
 use borrow.Author.Needs.{needs}
 use Rattle.judge.proofs.pass.watch.Statement.{statement}
 use Rattle.judge.proofs.pass.watch.Tie as tie
-use Rattle.judge.proofs.pass.watch.Reads as reads
-use Rattle.judge.proofs.pass.watch.Lts as lts
-use Rattle.judge.proofs.pass.seat.Reads as seat-reads
-use Rattle.judge.proofs.pass.unwatched.Reads as unwatched-reads
-use Rattle.premises.proofs.lag.Reads as lag-reads
-use Rattle.premises.proofs.lead.Reads as lead-reads
-use Rattle.premises.proofs.lesser.Reads as lesser-reads
-use Rattle.premises.proofs.stays_steady.Reads as stays-steady-reads
-use Rattle.premises.proofs.phase_heard.Reads as phase-heard-reads
-use Rattle.premises.proofs.receivers_place.Reads as receivers-place-reads
-use Rattle.premises.proofs.start_heard.Reads as start-heard-reads
-use Rattle.premises.proofs.start_place.Reads as start-place-reads
-use Rattle.premises.proofs.start_time.Reads as start-time-reads
-use Rattle.premises.proofs.watch_after.Reads as watch-after-reads
-use Rattle.sets.proofs.with_head.Reads as with-head-reads
-use Rattle.words.proofs.entry_of.Reads as entry-of-reads
-use Rattle.words.proofs.is_correct.Reads as is-correct-reads
 
 abbrev Inv-loop : tie.InvT-loop
 Inv-loop sheet g count sending took₀ received₀ started₀ leads₀ lags₀ steady₀ heard₀ votes₀ adjusts₀ i₀ took received started leads lags steady heard votes adjusts i =

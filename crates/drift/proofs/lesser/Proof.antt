@@ -1,0 +1,22 @@
+use mathlib.Core.Path.{sym, _∙_, ap, ap₂}
+use lib.Signed.{ltZ}
+use mathlib.Core.Bool.{Bool, cond}
+use mir.Syntax.{w64}
+use mir.Facts.{toZ-ofZ}
+use Rattle.drift.proofs.lesser.Statement.{statement}
+use Rattle.drift.proofs.lesser.Tie as tie
+
+-- src/lib.rt:37:1
+returns : tie.Need-returns
+returns c =
+    toZ-ofZ {w = w64} (c .before .fits .x)
+    ∙ sym (ap (λ (t : Bool). cond t (c .before .args .x) (c .before .args .y)) (sym (ap₂ ltZ (toZ-ofZ {w = w64} (c .before .fits .x)) (toZ-ofZ {w = w64} (c .before .fits .y))) ∙ c .if1 .taken))
+
+-- src/lib.rt:37:1
+returns-2 : tie.Need-returns-2
+returns-2 c =
+    toZ-ofZ {w = w64} (c .before .fits .y)
+    ∙ sym (ap (λ (t : Bool). cond t (c .before .args .x) (c .before .args .y)) (sym (ap₂ ltZ (toZ-ofZ {w = w64} (c .before .fits .x)) (toZ-ofZ {w = w64} (c .before .fits .y))) ∙ c .if1 .left))
+
+pub lesser-spec : {M : Type 1} → statement M
+lesser-spec = tie.close (tie.spec returns returns-2)
