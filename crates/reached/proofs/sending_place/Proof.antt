@@ -4,51 +4,51 @@ use borrow.Author.Needs.{needs}
 use Rattle.reached.proofs.sending_place.Statement.{statement}
 use Rattle.reached.proofs.sending_place.Tie as tie
 
--- src/lib.rt:25:15
+-- src/lib.rt:24:15
 cast-result : tie.Need-cast-result
 cast-result c = search needs
 
--- src/lib.rt:25:15
+-- src/lib.rt:24:15
 mul-result : tie.Need-mul-result
 mul-result c = search needs
 
--- src/lib.rt:25:9
+-- src/lib.rt:24:9
 add-result : tie.Need-add-result
 add-result c = search needs
 
--- src/lib.rt:25:40
+-- src/lib.rt:24:40
 cast-result-2 : tie.Need-cast-result-2
 cast-result-2 c = search needs
 
--- src/lib.rt:25:9
+-- src/lib.rt:24:9
 add-result-2 : tie.Need-add-result-2
 add-result-2 c = search needs
 
--- src/lib.rt:27:13
+-- src/lib.rt:26:13
 cast-result-3 : tie.Need-cast-result-3
 cast-result-3 c = search needs
 
--- src/lib.rt:27:13
+-- src/lib.rt:26:13
 mul-result-2 : tie.Need-mul-result-2
 mul-result-2 c = search needs
 
--- src/lib.rt:27:9
+-- src/lib.rt:26:9
 add-result-3 : tie.Need-add-result-3
 add-result-3 c = search needs
 
--- src/lib.rt:27:38
+-- src/lib.rt:26:38
 cast-result-4 : tie.Need-cast-result-4
 cast-result-4 c = search needs
 
--- src/lib.rt:27:9
+-- src/lib.rt:26:9
 add-result-4 : tie.Need-add-result-4
 add-result-4 c = search needs
 
--- src/lib.rt:21:1
+-- src/lib.rt:20:1
 returns : tie.Need-returns
 returns c = (simp (eq-eqb _ _ (c .if1 .taken)), omega arith)
 
--- src/lib.rt:21:1
+-- src/lib.rt:20:1
 returns-2 : tie.Need-returns-2
 returns-2 c = (simp (ne-eqb _ _ (c .if1 .left)), omega arith)
 
