@@ -1,0 +1,42 @@
+//! `corpus SEED FILE..`: writes the stored corpus as a stream on standard output:
+//! the sheets of the files, then the first 2,200 generated sheets of at most 1,800
+//! bytes, and the first 6 of 12,290 words, in the order of their index.
+
+use std::io::{stdout, BufWriter, Write};
+
+const SMALL: usize = 2_200;
+const SMALL_BYTES: usize = 1_800;
+const FULL: usize = 6;
+const FULL_BYTES: usize = 49_160;
+
+fn put(stream: &mut impl Write, bytes: &[u8]) -> std::io::Result<()> {
+    stream.write_all(&(bytes.len() as u32).to_be_bytes())?;
+    stream.write_all(bytes)
+}
+
+fn main() -> std::io::Result<()> {
+    let mut arguments = std::env::args().skip(1);
+    let Some(seed) = arguments.next().and_then(|a| a.parse().ok()) else {
+        eprintln!("usage: corpus SEED FILE..");
+        std::process::exit(2);
+    };
+    let mut stream = BufWriter::new(stdout().lock());
+    for file in arguments {
+        put(&mut stream, &std::fs::read(file)?)?;
+    }
+    let (mut small, mut full) = (0, 0);
+    for index in 0.. {
+        let bytes = reference::generate::generate(seed, index).bytes;
+        if bytes.len() <= SMALL_BYTES && small < SMALL {
+            small += 1;
+            put(&mut stream, &bytes)?;
+        } else if bytes.len() == FULL_BYTES && full < FULL {
+            full += 1;
+            put(&mut stream, &bytes)?;
+        }
+        if small == SMALL && full == FULL {
+            break;
+        }
+    }
+    stream.flush()
+}

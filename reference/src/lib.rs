@@ -1,0 +1,18 @@
+//! Reference implementation of document 01 ("The merge bench's common time: one
+//! round on the CAN bus"), written from its text alone. Clarity comes before
+//! speed, except in [`fast`], which is a second form of replay and judge.
+
+pub mod claim;
+pub mod counter;
+pub mod cover;
+pub mod fast;
+pub mod generate;
+pub mod judge;
+pub mod program;
+pub mod random;
+pub mod record;
+pub mod results;
+pub mod round;
+pub mod sheet;
+pub mod step;
+pub mod words;
