@@ -1,4 +1,4 @@
-// A run sheet: the verdict on its first words, and the run of its entries.
+// A run sheet: causes 1 to 4, and the run of its entries.
 mod arrays;
 
 ghost use mathlib.Core.Path.{_≡_};

@@ -42,7 +42,7 @@ fn later_of(b: bool, t: u32, x: u32) -> u32
     if b { if x < t { t } else { x } } else { x }
 }
 
-// "their last deliveries lie within the tightness": every two do if the earliest and the latest do.
+// "their last deliveries lie within the tightness": every two do if the earliest and the latest do. 2²⁸ is later than any.
 fn within_tightness(g: Setting, started: &[u32], v: u8) -> bool
     ensures { λ b. ⌜ b ≡ withinTightness g (now (started .entry)) v ⌝ }
 {
