@@ -36,7 +36,8 @@ use Rattle.changes.specs.declared.State.{State}
 use Rattle.changes.specs.declared.Message.{Message}
 use Rattle.changes.specs.declared.Message.the-variants.{NoMessage, StartMessage, VoteMessage, AdjustMessage}
 use Rattle.changes.specs.declared.Change.{Change}
-use Rattle.changes.specs.Changes.{withMarks, withPhases, saying, quiet, waits, leading, startDelivered, voteTurn, voteDelivered, adjustTurn, adjustDelivered, changeOf, senderOf, votedFor, keepOwn, chooseByte, voteAfter, adjustAfter, adjustmentAfter, stateAfter, frameOf}
+use Rattle.changes.specs.Changes.{withMarks, withPhases, saying, quiet, waits, leading, startDelivered, voteTurn, voteDelivered, adjustTurn, adjustDelivered, changeOf, senderOf}
+use Rattle.sending.specs.Sending.{votedFor, keepOwn, chooseByte, voteAfter, adjustAfter, adjustmentAfter, stateAfter, frameOf}
 use Rattle.actions.specs.declared.admit.Admission.{Admission}
 use Rattle.actions.specs.Actions.{stateOf, marksIn, stateFits, numbersFit, verdictOf, openVerdict, admittedBy, admissionOf, countedOf, saidOf, recordWith, takeFitting}
 

@@ -1,3 +1,2 @@
--- What the proofs of several functions use.
-mod Stored
+-- What holds of a record in a board's memory.
 pub mod Kept

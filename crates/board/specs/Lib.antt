@@ -1,3 +1,2 @@
--- What a board is asked and answers, and the same in numbers.
-pub mod Board
+-- What a board written in C gives and gets.
 pub mod Numbers

@@ -19,8 +19,8 @@ use Rattle.protocol.specs.Step.{refused, step}
 use Rattle.protocol.specs.Causes.{causeNumber}
 use Rattle.protocol.specs.Results.{ifAdopted}
 use Rattle.image.specs.Rows.{byteIn, markWord, recordIn, rowsOf, rowsFit}
-use Rattle.board.specs.declared.Seat.{Seat}
-use Rattle.board.specs.Board.{seatVerdict, freshAt}
+use Rattle.in_place.specs.declared.Seat.{Seat}
+use Rattle.in_place.specs.Board.{seatVerdict, freshAt}
 
 -- 0, or the cause's number
 abbrev pub verdictNumber : Verdict → ℕ

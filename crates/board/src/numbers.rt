@@ -1,5 +1,4 @@
 // What a board written in C gives and gets, in numbers.
-use crate::Seat;
 use causes::cause_number;
 use head::chosen_start;
 use head::outcome;
@@ -8,6 +7,7 @@ use image::byte_in;
 use image::record_in;
 use image::rows_fit;
 use image::rows_of;
+use in_place::Seat;
 use protocol::Cause;
 use protocol::Frame;
 use protocol::HeadRecord;

@@ -1,15 +1,13 @@
--- An action's effect on the small part of a record that it touches, and what a head's own frame leaves there.
--- The proofs of `actions` show that both together are the definition `effect`.
+-- An action's effect on the small part of a record that it touches. What the head's own frame leaves there is said in
+-- `sending`; the proofs of `actions` show that both together are the definition `effect`.
 use mathlib.Core.Bool.{Bool, true, false, cond, not, _&&_, _||_}
-use Prim.Native.Nat.{ℕ, _+_, _%_, _^_}
+use Prim.Native.Nat.{ℕ}
 use Rattle.protocol.specs.declared.Reading.{Reading}
 use Rattle.protocol.specs.declared.OptReading.{OptReading}
 use Rattle.protocol.specs.declared.OptReading.the-variants.{SomeReading}
-use Rattle.protocol.specs.declared.OptNumber.the-variants.{SomeNumber}
 use Rattle.protocol.specs.declared.Sender.{Sender}
 use Rattle.protocol.specs.declared.Phase.{Phase}
-use Rattle.protocol.specs.declared.Frame.{Frame}
-use Rattle.protocol.specs.declared.Frame.the-variants.{NoFrame, Start, Vote, Adjust}
+use Rattle.protocol.specs.declared.Frame.the-variants.{Start, Vote, Adjust}
 use Rattle.protocol.specs.declared.Action.{Action}
 use Rattle.protocol.specs.declared.Action.the-variants.{Look, StartSent, StartDelivered, StartConfirmed, VoteTurn, VoteDelivered, VoteClose, AdjustTurn, AdjustDelivered, AdjustClose}
 use Rattle.protocol.specs.Record.{isNumber, reading}
@@ -88,53 +86,3 @@ senderOf own VoteClose = own
 senderOf own AdjustTurn = own
 senderOf own (AdjustDelivered p k c x) = p
 senderOf own AdjustClose = own
-
--- what is sending; only a vote or an adjust leaves anything in the record
-abbrev pub speaks : Message → Bool
-speaks NoMessage = false
-speaks StartMessage = false
-speaks (VoteMessage c) = true
-speaks (AdjustMessage c x) = true
-
-abbrev pub votedFor : ℕ → Message → ℕ
-votedFor own NoMessage = own
-votedFor own StartMessage = own
-votedFor own (VoteMessage c) = c
-votedFor own (AdjustMessage c x) = own
-
-abbrev pub keepOwn : Sender → Message → OptReading → Sender
-keepOwn k NoMessage x = k
-keepOwn k StartMessage x = k
-keepOwn k (VoteMessage c) x = withVoteReading k x
-keepOwn k (AdjustMessage c y) x = k
-
--- the count of frames is a byte
-abbrev pub chooseByte : ℕ → Phase → Phase
-chooseByte c p = record { turn = p .turn; closed = p .closed; choice = SomeNumber c; sent = (p .sent + 1) % 2 ^ 8 }
-
-abbrev pub voteAfter : State → Message → Phase
-voteAfter b NoMessage = b .vote
-voteAfter b StartMessage = b .vote
-voteAfter b (VoteMessage c) = chooseByte c (b .vote)
-voteAfter b (AdjustMessage c z) = b .vote
-
-abbrev pub adjustAfter : State → Message → Phase
-adjustAfter b NoMessage = b .adjust
-adjustAfter b StartMessage = b .adjust
-adjustAfter b (VoteMessage c) = b .adjust
-adjustAfter b (AdjustMessage c z) = chooseByte c (b .adjust)
-
-abbrev pub adjustmentAfter : State → Message → Reading
-adjustmentAfter b NoMessage = b .adjustment
-adjustmentAfter b StartMessage = b .adjustment
-adjustmentAfter b (VoteMessage c) = b .adjustment
-adjustmentAfter b (AdjustMessage c z) = z
-
-abbrev pub stateAfter : State → Message → State
-stateAfter b s = stateFrom (b .own) (b .last) (b .started) (b .confirmed) (voteAfter b s) (adjustAfter b s) (adjustmentAfter b s)
-
-abbrev pub frameOf : State → Message → OptReading → Frame
-frameOf b NoMessage x = NoFrame
-frameOf b StartMessage x = Start
-frameOf b (VoteMessage c) x = Vote (b .vote .sent) c x
-frameOf b (AdjustMessage c z) x = Adjust (b .adjust .sent) c z

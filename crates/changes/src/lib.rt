@@ -1,17 +1,11 @@
 // What an action does, by the small part of a record that it touches: the record less what it keeps by sender, and what
 // it keeps by the action's sender.
-mod sending;
 mod taking;
 
 use protocol::Action;
 use protocol::Phase;
 use protocol::Reading;
 use protocol::Sender;
-pub use sending::frame_of;
-pub use sending::keep_own;
-pub use sending::speaks;
-pub use sending::state_after;
-pub use sending::voted_for;
 use taking::adjust_delivered;
 use taking::adjust_turn;
 use taking::silently;

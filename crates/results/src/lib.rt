@@ -79,7 +79,7 @@ fn write_words(out: &mut [u32], records: [HeadRecord; 16], n: u8)
 pub fn replay(sheet: &[u32], out: &mut [u32]) -> Replayed
     ensures { λ r. ⌜ (r ≡ replay (now (sheet .entry)) (now (out .entry)) .answer) × (now (out .exit) ≡ replay (now (sheet .entry)) (now (out .entry)) .buffer) ⌝ }
 {
-    let v = sheet::sheet_verdict(sheet);
+    let v = sheet_words::sheet_verdict(sheet);
     match v {
         Verdict::Refused(c) => Replayed::TurnedBack(c, 0),
         Verdict::Accepted => {

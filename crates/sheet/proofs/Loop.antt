@@ -38,7 +38,8 @@ use Rattle.changes.specs.declared.State.{State}
 use Rattle.changes.specs.declared.Message.{Message}
 use Rattle.changes.specs.declared.Message.the-variants.{NoMessage, StartMessage, VoteMessage, AdjustMessage}
 use Rattle.changes.specs.declared.Change.{Change}
-use Rattle.changes.specs.Changes.{changeOf, senderOf, speaks, votedFor, keepOwn, stateFrom, voteAfter, adjustAfter, adjustmentAfter, stateAfter, frameOf as messageFrame}
+use Rattle.changes.specs.Changes.{changeOf, senderOf, stateFrom}
+use Rattle.sending.specs.Sending.{speaks, votedFor, keepOwn, voteAfter, adjustAfter, adjustmentAfter, stateAfter, frameOf as messageFrame}
 use Rattle.actions.specs.Actions.{stateOf, stateFits, numbersFit, openVerdict, withReading, admittedBy, countedOf, saidOf, recordWith}
 use Rattle.actions.proofs.Built.{sending, builtBy, built, sayable, built-open}
 use Rattle.entries.specs.Entries.{deliveredFrame, entryVerdict}

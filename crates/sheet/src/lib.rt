@@ -1,8 +1,7 @@
-// A run sheet: causes 1 to 4, and the run of its entries.
+// The run of a sheet's entries.
 mod arrays;
 
 ghost use mathlib.Core.Path.{_≡_};
-ghost use Rattle.protocol.specs.Causes.{sheetVerdict};
 ghost use Rattle.protocol.specs.Words.{settingAt};
 ghost use Rattle.protocol.specs.Run.{runOf};
 ghost use Rattle.protocol.specs.Words.{headsFit};
@@ -24,12 +23,7 @@ use arrays::records_of;
 use arrays::row_of;
 use changes::State;
 use changes::act;
-use changes::frame_of;
-use changes::keep_own;
 use changes::sender_of;
-use changes::speaks;
-use changes::state_after;
-use changes::voted_for;
 use entries::asked;
 use entries::delivered_frame;
 use entries::entry_verdict;
@@ -40,6 +34,13 @@ use protocol::Frame;
 use protocol::HeadRecord;
 use protocol::Setting;
 use protocol::Verdict;
+use sending::frame_of;
+use sending::keep_own;
+use sending::speaks;
+use sending::state_after;
+use sending::voted_for;
+use sheet_words::entry_fits;
+use sheet_words::sheet_verdict;
 
 // A frame that a head sent, and the index of the entry at which it did.
 pub struct Sent {
@@ -64,29 +65,6 @@ pub struct Ran {
     pub verdict: Verdict,
     pub place: usize,
     pub bench: Bench,
-}
-
-// Causes 1 to 4.
-pub fn sheet_verdict(sheet: &[u32]) -> Verdict
-    ensures { λ v. ⌜ v ≡ sheetVerdict (now (sheet .entry)) ⌝ }
-{
-    let len = sheet.len();
-    if 12290 < len {
-        return Verdict::Refused(Cause::TooManyWords);
-    }
-    if len < 2 {
-        return Verdict::Refused(Cause::BadLength);
-    }
-    if (len - 2) % 3 == 0 {
-        if words::first_word_fits(sheet[0]) {
-            if words::second_word_fits(sheet[1]) {
-                return Verdict::Accepted;
-            }
-            return Verdict::Refused(Cause::BadSecondWord);
-        }
-        return Verdict::Refused(Cause::BadFirstWord);
-    }
-    Verdict::Refused(Cause::BadLength)
 }
 
 // The place of what head q keeps by sender p.
@@ -163,7 +141,7 @@ fn read_entry(sheet: &[u32], n: u8, i: usize) -> Read
     let a = sheet[at + 1];
     let w = sheet[at + 2];
     let entry = words::entry_of(t, a, w);
-    let fits = words::entry_fits(n, t, a, w);
+    let fits = entry_fits(n, t, a, w);
     Read { entry, fits }
 }
 

@@ -1,7 +1,6 @@
 // Prints, after every entry of a run sheet: its index, real time, head and action, then the head's candidate, adjuster
 // and adjustment (- for none) and outcome; or `refused`, the cause's number and the place, at the entry that is refused.
-// The sheets are the files that the arguments name, each under its name, and `-` is standard input; without an argument
-// it is standard input alone.
+// The sheet comes on standard input; it has at most 49,160 bytes, so one that fills the buffer is too long.
 use big_endian::words_of;
 use causes::cause_number;
 use libc::STDIN_FILENO;
@@ -100,56 +99,8 @@ fn trace_bytes(bytes: &[u8]) {
     }
 }
 
-fn trace_input(fd: i32) {
-    let mut buffer = io::large_buffer();
-    let n = io::read_full(fd, &mut buffer);
-    trace_bytes(&buffer[..n]);
-}
-
-fn trace_file(name: &[u8]) {
-    let fd = os::open_read(name);
-    if fd < 0 {
-        os::fail(name);
-        return;
-    }
-    trace_input(fd);
-    libc::close(fd);
-}
-
-fn is_dash(name: &[u8]) -> bool {
-    if name.len() == 1 {
-        name[0] == b'-'
-    } else {
-        false
-    }
-}
-
-fn trace_argument(i: usize) {
-    let mut path = io::buffer();
-    let length = os::arg(i, &mut path);
-    let name = &path[..length];
-    print(name);
-    print(b"\n");
-    if is_dash(name) {
-        trace_input(STDIN_FILENO);
-    } else {
-        trace_file(name);
-    }
-}
-
-fn trace_arguments(count: usize) {
-    let mut i: usize = 1;
-    while i < count {
-        trace_argument(i);
-        i += 1;
-    }
-}
-
 fn main() {
-    let count = os::arg_count();
-    if count < 2 {
-        trace_input(STDIN_FILENO);
-    } else {
-        trace_arguments(count);
-    }
+    let mut buffer = io::large_buffer();
+    let n = io::read_full(STDIN_FILENO, &mut buffer);
+    trace_bytes(&buffer[..n]);
 }

@@ -1,12 +1,11 @@
 // The words of a run sheet, taken apart and tested: document 01, "Words of a run sheet".
 // Bits HIGH–LOW of a word are the word shifted right by LOW, modulo 2 to the number of those bits.
-// The parts of a test are joined by `&` and `|`: each part is total, and costs less than a branch; but those of
-// `entry_fits` by `&&`, since nearly every entry passes all of them, and a part that passes costs less so.
+// The parts of a test are joined by `&` and `|`: each part is total, and costs less than a branch.
 ghost use mathlib.Core.Path.{_≡_};
 ghost use Prim.Native.Nat.{_^_};
 ghost use lib.Dec.{ltb};
 ghost use Rattle.protocol.specs.Words.{kindOf, isTime, settingOf, isCorrect, headsFit, firstWordFits, secondWordFits};
-ghost use Rattle.protocol.specs.Words.{entryOf, hasSerial, hasSender, zeroWhereUnused, entryFits};
+ghost use Rattle.protocol.specs.Words.{entryOf, hasSerial, hasSender, zeroWhereUnused};
 use protocol::Entry;
 use protocol::Reading;
 use protocol::RealTime;
@@ -16,7 +15,7 @@ use protocol::Setting;
 const TIMES: u32 = 268435456;
 
 // "the top four bits are the kind"
-fn kind(w: u32) -> u32
+pub fn kind(w: u32) -> u32
     ensures { λ r. ⌜ r ≡ kindOf w ⌝ }
 {
     (w >> 28) % 16
@@ -118,19 +117,4 @@ pub fn zero_where_unused(a: u8, sender: u8, serial: u8) -> bool
     ensures { λ r. ⌜ r ≡ zeroWhereUnused a sender serial ⌝ }
 {
     (has_sender(a) | (sender == 0)) & (has_serial(a) | (serial == 0))
-}
-
-// cause 6: "entry's kinds, action above 9, head or sender not below n, a must-be-zero field"
-pub fn entry_fits(n: u8, t: u32, a: u32, w: u32) -> bool
-    ensures { λ r. ⌜ r ≡ entryFits n t a w ⌝ }
-{
-    let e = entry_of(t, a, w);
-    kind(t) == 3
-        && (kind(a) == 4
-            && (kind(w) == 5
-                && (w % 4096 == 0
-                    && (e.action <= 9
-                        && (e.head < n
-                            && (e.sender < n
-                                && zero_where_unused(e.action, e.sender, e.serial)))))))
 }

@@ -11,7 +11,7 @@ use Rattle.sheet.proofs.run.Reads as reads
 use Rattle.sheet.proofs.run.Lts as lts
 use Rattle.sheet.proofs.refused_at.Reads as refused-at-reads
 use Rattle.sheet.proofs.run_entries.Reads as run-entries-reads
-use Rattle.sheet.proofs.sheet_verdict.Reads as sheet-verdict-reads
+use Rattle.sheet_words.proofs.sheet_verdict.Reads as sheet-verdict-reads
 use Rattle.words.proofs.setting_of.Reads as setting-of-reads
 
 -- src/lib.rt:206:9

@@ -1,0 +1,2 @@
+-- What a board is asked and answers.
+pub mod Board

@@ -1,0 +1,2 @@
+-- What the proof of `entry_fits` cites.
+mod Fits
