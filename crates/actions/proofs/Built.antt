@@ -36,10 +36,10 @@ use Rattle.changes.specs.declared.State.{State}
 use Rattle.changes.specs.declared.Message.{Message}
 use Rattle.changes.specs.declared.Message.the-variants.{NoMessage, StartMessage, VoteMessage, AdjustMessage}
 use Rattle.changes.specs.declared.Change.{Change}
-use Rattle.changes.specs.Changes.{withMarks, withPhases, saying, quiet, waits, leading, startDelivered, voteTurn, voteDelivered, adjustTurn, adjustDelivered, changeOf, senderOf}
+use Rattle.changes.specs.Changes.{withMarks, withPhases, sends, sendsNothing, waits, leading, startDelivered, voteTurn, voteDelivered, adjustTurn, adjustDelivered, changeOf, senderOf}
 use Rattle.sending.specs.Sending.{votedFor, keepOwn, chooseByte, voteAfter, adjustAfter, adjustmentAfter, stateAfter, frameOf}
 use Rattle.actions.specs.declared.admit.Admission.{Admission}
-use Rattle.actions.specs.Actions.{stateOf, marksIn, stateFits, numbersFit, verdictOf, openVerdict, admittedBy, admissionOf, countedOf, saidOf, recordWith, takeFitting}
+use Rattle.actions.specs.Actions.{stateOf, marksIn, stateFits, numbersFit, verdictOf, openVerdict, admittedBy, admissionOf, countedOf, messageOf, recordWith, takeFitting}
 
 -- WHAT THE CODE BUILDS
 
@@ -68,7 +68,7 @@ finish r v b l s c j =
     }
 
 abbrev pub sending : HeadRecord → ℕ → Change → Message
-sending r i d = saidOf (withSender r i (d .kept)) d
+sending r i d = messageOf (withSender r i (d .kept)) d
 
 abbrev pub builtBy : HeadRecord → Verdict → ℕ → Change → Stepped
 builtBy r v i d = finish r v (d .state) (set (r .senders) i (d .kept)) (sending r i d) (votedFor (r .own) (sending r i d) % 16) (r .own % 16)
@@ -90,7 +90,7 @@ kept-same l i j = set-getD (set l i (getD l i noSender)) j noSender ∙ set-getD
 built-refused : (r : HeadRecord) (c : Cause) → built r (record { verdict = Refused c; state = stateOf r (r .last); action = Look }) ≡ refused r c
 built-refused r c = ap (λ (l : List Sender). refused (withSenders r l) c) (kept-same (r .senders) (r .own % 16) (r .own % 16))
 
--- WHAT A SPEECH LEAVES
+-- WHAT A MESSAGE LEAVES
 
 abbrev withMessageOf : Message → HeadRecord → Stepped
 withMessageOf NoMessage m = silent m
@@ -138,9 +138,9 @@ built-sends r i d o h =
     finish-sends r (d .state) (set (r .senders) i (d .kept)) (sending r i d) _ _ (h .same) (mod-eq-of-lt o)
     (mod-eq-of-lt (sending-named r i d o (h .named))) (h .votes) (h .adjusts)
 
-sayable-cond : (r : HeadRecord) (t : Bool) {d e : Change} → Sendable r d → Sendable r e → Sendable r (cond t d e)
-sayable-cond r true h g = h
-sayable-cond r false h g = g
+sendable-cond : (r : HeadRecord) (t : Bool) {d e : Change} → Sendable r d → Sendable r e → Sendable r (cond t d e)
+sendable-cond r true h g = h
+sendable-cond r false h g = g
 
 module _ (r : HeadRecord) (x : Reading) (fits : stateFits (r .n) (stateOf r (r .last)) ≡ true) where
   own-fits : r .own < 16
@@ -159,49 +159,49 @@ module _ (r : HeadRecord) (x : Reading) (fits : stateFits (r .n) (stateOf r (r .
 
   -- a change whose small part keeps the head's number and counts
   plain : (b : State) (e : Sender) (s : Message) (k : Bool) → b .own ≡ r .own → b .vote .sent ≡ r .vote .sent → b .adjust .sent ≡ r .adjust .sent
-      → votedFor (r .own) s < 16 → Sendable r (saying b e s k)
+      → votedFor (r .own) s < 16 → Sendable r (sends b e s k)
   plain b e s k o v w h =
       record { same = o; votes = (let z = votes-fit in omega arith); adjusts = (let z = adjusts-fit in omega arith); named = h }
 
-  mild : (b : State) (e : Sender) → b .own ≡ r .own → b .vote .sent ≡ r .vote .sent → b .adjust .sent ≡ r .adjust .sent → Sendable r (quiet b e)
+  mild : (b : State) (e : Sender) → b .own ≡ r .own → b .vote .sent ≡ r .vote .sent → b .adjust .sent ≡ r .adjust .sent → Sendable r (sendsNothing b e)
   mild b e o v w = plain b e NoMessage false o v w own-fits
 
   abbrev now : State
   now = stateOf r x
 
-  lead-sayable : (b : State) (e : Sender) → b .own ≡ r .own → b .vote .sent ≡ r .vote .sent → b .adjust .sent ≡ r .adjust .sent → Sendable r (leading b e)
+  lead-sendable : (b : State) (e : Sender) → b .own ≡ r .own → b .vote .sent ≡ r .vote .sent → b .adjust .sent ≡ r .adjust .sent → Sendable r (leading b e)
   unfolding leading
-  lead-sayable b e o v w =
-      sayable-cond r (waits (b .vote)) {d = saying b e (VoteMessage (b .own)) true} {e = quiet b e}
+  lead-sendable b e o v w =
+      sendable-cond r (waits (b .vote)) {d = sends b e (VoteMessage (b .own)) true} {e = sendsNothing b e}
       (plain b e (VoteMessage (b .own)) true o v w (let z = own-fits in omega arith)) (mild b e o v w)
 
-  pub sayable : (e : Sender) (a : Action) → numbersFit a ≡ true → Sendable r (changeOf now e a)
+  pub sendable : (e : Sender) (a : Action) → numbersFit a ≡ true → Sendable r (changeOf now e a)
   unfolding startDelivered voteTurn voteDelivered adjustTurn adjustDelivered numbersFit
-  sayable e Look f = mild now e refl refl refl
-  sayable e StartSent f = plain (withMarks now true (r .confirmed)) e StartMessage false refl refl refl own-fits
-  sayable e (StartDelivered p) f =
+  sendable e Look f = mild now e refl refl refl
+  sendable e StartSent f = plain (withMarks now true (r .confirmed)) e StartMessage false refl refl refl own-fits
+  sendable e (StartDelivered p) f =
       let k = withStart e (SomeReading x) in
-      sayable-cond r (r .adjust .closed) {d = quiet now e} {e = leading now k} (mild now e refl refl refl) (lead-sayable now k refl refl refl)
-  sayable e StartConfirmed f = mild (withMarks now (r .started) true) e refl refl refl
-  sayable e VoteTurn f = lead-sayable (withPhases now (takeTurn (r .vote)) (r .adjust)) e refl refl refl
-  sayable e (VoteDelivered p k c y) f =
+      sendable-cond r (r .adjust .closed) {d = sendsNothing now e} {e = leading now k} (mild now e refl refl refl) (lead-sendable now k refl refl refl)
+  sendable e StartConfirmed f = mild (withMarks now (r .started) true) e refl refl refl
+  sendable e VoteTurn f = lead-sendable (withPhases now (takeTurn (r .vote)) (r .adjust)) e refl refl refl
+  sendable e (VoteDelivered p k c y) f =
       let t = withVoted (withVoteReading e y) k in
-      sayable-cond r (r .vote .closed || not (isAbove k (e .voted))) {d = quiet now e} {e = cond (outranks c (r .vote .choice)) (saying now t (VoteMessage c) false) (quiet now t)}
+      sendable-cond r (r .vote .closed || not (isAbove k (e .voted))) {d = sendsNothing now e} {e = cond (outranks c (r .vote .choice)) (sends now t (VoteMessage c) false) (sendsNothing now t)}
       (mild now e refl refl refl)
-      (sayable-cond r (outranks c (r .vote .choice)) {d = saying now t (VoteMessage c) false} {e = quiet now t}
+      (sendable-cond r (outranks c (r .vote .choice)) {d = sends now t (VoteMessage c) false} {e = sendsNothing now t}
       (plain now t (VoteMessage c) false refl refl refl (ltb-true c 16 (and-right (ltb p 16) _ f))) (mild now t refl refl refl))
-  sayable e VoteClose f = mild (withPhases now (close (r .vote)) (r .adjust)) e refl refl refl
-  sayable e AdjustTurn f =
+  sendable e VoteClose f = mild (withPhases now (close (r .vote)) (r .adjust)) e refl refl refl
+  sendable e AdjustTurn f =
       let b = withPhases now (r .vote) (takeTurn (r .adjust)) in
-      sayable-cond r (isNumber (r .vote .choice) && not (isNumber (r .adjust .choice))) {d = saying b e (AdjustMessage (r .own) (reading 0)) true} {e = quiet b e}
+      sendable-cond r (isNumber (r .vote .choice) && not (isNumber (r .adjust .choice))) {d = sends b e (AdjustMessage (r .own) (reading 0)) true} {e = sendsNothing b e}
       (plain b e (AdjustMessage (r .own) (reading 0)) true refl refl refl own-fits) (mild b e refl refl refl)
-  sayable e (AdjustDelivered p k c y) f =
+  sendable e (AdjustDelivered p k c y) f =
       let t = withAdjusted e k in
-      sayable-cond r (r .adjust .closed || not (isAbove k (e .adjusted))) {d = quiet now e} {e = cond (outranks c (r .adjust .choice)) (saying now t (AdjustMessage c y) false) (quiet now t)}
+      sendable-cond r (r .adjust .closed || not (isAbove k (e .adjusted))) {d = sendsNothing now e} {e = cond (outranks c (r .adjust .choice)) (sends now t (AdjustMessage c y) false) (sendsNothing now t)}
       (mild now e refl refl refl)
-      (sayable-cond r (outranks c (r .adjust .choice)) {d = saying now t (AdjustMessage c y) false} {e = quiet now t}
+      (sendable-cond r (outranks c (r .adjust .choice)) {d = sends now t (AdjustMessage c y) false} {e = sendsNothing now t}
       (plain now t (AdjustMessage c y) false refl refl refl own-fits) (mild now t refl refl refl))
-  sayable e AdjustClose f = mild (withPhases now (r .vote) (close (r .adjust))) e refl refl refl
+  sendable e AdjustClose f = mild (withPhases now (r .vote) (close (r .adjust))) e refl refl refl
 
 -- THE DEFINITION'S EFFECT
 
@@ -235,7 +235,7 @@ leads : (r : HeadRecord) (i : ℕ) (b : State) (k : Sender) → withMessage r i 
 unfolding leading waits lead mayLead countedOf startsHeld
 leads r i b k =
     let m = recordFrom r b (set (r .senders) i k) in
-    withMessage-cond r i (waits (b .vote)) (saying b k (VoteMessage (b .own)) true) (quiet b k)
+    withMessage-cond r i (waits (b .vote)) (sends b k (VoteMessage (b .own)) true) (sendsNothing b k)
     ∙ ap (λ (z : Stepped). cond (waits (b .vote)) z (silent m)) (withMessageOf-cond (ltb (r .f) (startsHeld m)) (VoteMessage (b .own)) NoMessage m)
     ∙ ap (λ (q : Bool). cond (waits (b .vote)) (cond q (vote (b .own) m) (silent m)) (silent m)) (above-le (r .f) (startsHeld m))
     ∙ one-more (b .vote .turn) (b .vote .closed) (isNumber (b .vote .choice)) (leb (r .f + 1) (startsHeld m)) (vote (b .own) m) (silent m)
@@ -246,7 +246,7 @@ readings-of r m e zero = refl
 readings-of r m e (suc k) = ap₂ (λ (l : List Sender) (z : List ℕ). prepend (getD l k noSender .vote) z) e (readings-of r m e k)
 
 proposes : (r : HeadRecord) (i : ℕ) (b : State) (k : Sender)
-    → withMessage r i (cond (isNumber (b .vote .choice) && not (isNumber (b .adjust .choice))) (saying b k (AdjustMessage (b .own) (reading 0)) true) (quiet b k))
+    → withMessage r i (cond (isNumber (b .vote .choice) && not (isNumber (b .adjust .choice))) (sends b k (AdjustMessage (b .own) (reading 0)) true) (sendsNothing b k))
     ≡ propose (recordFrom r b (set (r .senders) i k))
 unfolding propose mayAdjust countedOf
 proposes r i b k =
@@ -254,7 +254,7 @@ proposes r i b k =
     let t = isNumber (b .vote .choice) && not (isNumber (b .adjust .choice)) in
     let q = leb 1 (length (voteReadings m (m .n))) in
     let y = reading (median (voteReadings m (m .n))) in
-    withMessage-cond r i t (saying b k (AdjustMessage (b .own) (reading 0)) true) (quiet b k)
+    withMessage-cond r i t (sends b k (AdjustMessage (b .own) (reading 0)) true) (sendsNothing b k)
     ∙ ap (λ (l : List ℕ). cond t (withMessageOf (cond (leb 1 (length l)) (AdjustMessage (b .own) (reading (median l))) NoMessage) m) (silent m))
     (readings-of (withSender r i k) m refl (r .n))
     ∙ ap (λ (z : Stepped). cond t z (silent m)) (withMessageOf-cond q (AdjustMessage (b .own) y) NoMessage m)
@@ -271,7 +271,7 @@ module _ (r : HeadRecord) (x : Reading) where
   change-effect StartSent = same-kept (λ (l : List Sender). accepted (recordFrom r (withMarks (stateOf r x) true (r .confirmed)) l) Start) (r .senders) (r .own)
   change-effect (StartDelivered p) =
       let k = withStart (at p) (SomeReading x) in
-      withMessage-cond r p (r .adjust .closed) (quiet (stateOf r x) (at p)) (leading (stateOf r x) k)
+      withMessage-cond r p (r .adjust .closed) (sendsNothing (stateOf r x) (at p)) (leading (stateOf r x) k)
       ∙ ap₂ (λ (y z : Stepped). cond (r .adjust .closed) y z)
       (same-kept (λ (l : List Sender). silent (recordFrom r (stateOf r x) l)) (r .senders) p) (leads r p (stateOf r x) k)
   change-effect StartConfirmed = same-kept (λ (l : List Sender). silent (recordFrom r (withMarks (stateOf r x) (r .started) true) l)) (r .senders) (r .own)
@@ -284,10 +284,10 @@ module _ (r : HeadRecord) (x : Reading) where
       let m = recordFrom r b (set (r .senders) p e) in
       let t = r .vote .closed || not (isAbove k (at p .voted)) in
       let o = outranks c (r .vote .choice) in
-      withMessage-cond r p t (quiet b (at p)) (cond o (saying b e (VoteMessage c) false) (quiet b e))
+      withMessage-cond r p t (sendsNothing b (at p)) (cond o (sends b e (VoteMessage c) false) (sendsNothing b e))
       ∙ ap₂ (λ (y z : Stepped). cond t y z)
       (same-kept (λ (l : List Sender). silent (recordFrom r b l)) (r .senders) p)
-      (withMessage-cond r p o (saying b e (VoteMessage c) false) (quiet b e))
+      (withMessage-cond r p o (sends b e (VoteMessage c) false) (sendsNothing b e))
   change-effect VoteClose = same-kept (λ (l : List Sender). silent (recordFrom r (withPhases (stateOf r x) (close (r .vote)) (r .adjust)) l)) (r .senders) (r .own)
   change-effect AdjustTurn =
       let b = withPhases (stateOf r x) (r .vote) (takeTurn (r .adjust)) in
@@ -297,10 +297,10 @@ module _ (r : HeadRecord) (x : Reading) where
       let e = withAdjusted (at p) k in
       let t = r .adjust .closed || not (isAbove k (at p .adjusted)) in
       let o = outranks c (r .adjust .choice) in
-      withMessage-cond r p t (quiet b (at p)) (cond o (saying b e (AdjustMessage c y) false) (quiet b e))
+      withMessage-cond r p t (sendsNothing b (at p)) (cond o (sends b e (AdjustMessage c y) false) (sendsNothing b e))
       ∙ ap₂ (λ (y z : Stepped). cond t y z)
       (same-kept (λ (l : List Sender). silent (recordFrom r b l)) (r .senders) p)
-      (withMessage-cond r p o (saying b e (AdjustMessage c y) false) (quiet b e))
+      (withMessage-cond r p o (sends b e (AdjustMessage c y) false) (sendsNothing b e))
   change-effect AdjustClose = same-kept (λ (l : List Sender). silent (recordFrom r (withPhases (stateOf r x) (r .vote) (close (r .adjust))) l)) (r .senders) (r .own)
 
 -- MAIN RESULTS
@@ -324,7 +324,7 @@ built-accepted r x a f g =
     let o = own-fits r x f in
     let p = senderOf (r .own) a in
     ap (λ (i : ℕ). builtBy r Accepted i (changeOf (stateOf r x) (getD (r .senders) i noSender) a)) (mod-eq-of-lt (sender-fits r a o g))
-    ∙ built-sends r p _ o (sayable r x f (getD (r .senders) p noSender) a g) ∙ change-effect r x a
+    ∙ built-sends r p _ o (sendable r x f (getD (r .senders) p noSender) a g) ∙ change-effect r x a
 
 pub built-takes : (r : HeadRecord) (x : Reading) (sent : Bool) (a : Action) → built r (admissionOf (r .n) (stateOf r (r .last)) x sent a) ≡ takeFitting r x sent a
 unfolding admissionOf verdictOf openVerdict takeFitting takeAction

@@ -90,8 +90,8 @@ countedOf r StartMessage = StartMessage
 countedOf r (VoteMessage c) = cond (ltb (r .f) (startsHeld r)) (VoteMessage c) NoMessage
 countedOf r (AdjustMessage c x) = cond (leb 1 (length (voteReadings r (r .n)))) (AdjustMessage c (reading (median (voteReadings r (r .n))))) NoMessage
 
-abbrev pub saidOf : HeadRecord → Change → Message
-saidOf r d = cond (d .counts) (countedOf r (d .message)) (d .message)
+abbrev pub messageOf : HeadRecord → Change → Message
+messageOf r d = cond (d .counts) (countedOf r (d .message)) (d .message)
 
 -- takeAction, of what fits
 unfoldable pub takeFitting : HeadRecord → Reading → Bool → Action → Stepped

@@ -1,4 +1,4 @@
-// What a head says once it has counted its readings.
+// What a head sends once it has counted its readings.
 use changes::Change;
 use changes::Message;
 use changes::State;
@@ -9,7 +9,7 @@ use protocol::HeadRecord;
 use protocol::Sender;
 ghost use mathlib.Core.Path.{_≡_};
 ghost use Prim.Native.Nat.{_≤_};
-ghost use Rattle.actions.specs.Actions.{countedOf, recordWith, saidOf};
+ghost use Rattle.actions.specs.Actions.{countedOf, recordWith, messageOf};
 
 // A vote needs more than f start readings, an adjust at least one vote reading, of which it takes the median.
 pub fn count_first(r: HeadRecord, s: Message) -> Message
@@ -58,10 +58,10 @@ pub fn record_with(n: u8, f: u8, b: State, senders: [Sender; 16]) -> HeadRecord
     }
 }
 
-// What a head says at change d, of which record r has the sender's part already.
-pub fn said(r: HeadRecord, d: Change) -> Message
+// What a head sends at change d, of which record r has the sender's part already.
+pub fn counted_message(r: HeadRecord, d: Change) -> Message
     requires { ⌜ r .n ≤ 16 ⌝ }
-    ensures { λ s. ⌜ s ≡ saidOf r d ⌝ }
+    ensures { λ s. ⌜ s ≡ messageOf r d ⌝ }
 {
     let s = d.message;
     if d.counts { count_first(r, s) } else { s }

@@ -18,7 +18,7 @@ use Rattle.protocol.specs.Words.{headsFit}
 use Rattle.protocol.specs.Record.{fresh, reading, recordInRange}
 use Rattle.protocol.specs.Step.{actionOf, effect, inputFits, isClosed, step, takeAction, withLast}
 use Rattle.protocol.proofs.Tests.{cond-elim}
-use Rattle.protocol.proofs.Effects.{effect-split, prepared, prepared-same, speechOf, utter-same}
+use Rattle.protocol.proofs.Effects.{effect-split, prepared, prepared-same, sendingOf, send-same}
 use Rattle.protocol.proofs.Laws.{step-answers}
 use Rattle.protocol.proofs.Ranges.{fresh-in-range, step-in-range}
 use Rattle.image.specs.Rows.{rowsOf}
@@ -47,7 +47,7 @@ fresh-held n f own e b = record { ranged = fresh-in-range n f own e b; sixteen =
 
 effect-size : (r : HeadRecord) (a : Action) → length (effect r a .after .senders) ≡ length (r .senders)
 effect-size r a =
-    ap (λ (t : Stepped). length (t .after .senders)) (effect-split r a) ∙ utter-same (speechOf r a) (prepared r a) .size ∙ prepared-same r a .size
+    ap (λ (t : Stepped). length (t .after .senders)) (effect-split r a) ∙ send-same (sendingOf r a) (prepared r a) .size ∙ prepared-same r a .size
 
 take-size : (r : HeadRecord) (x : Reading) (a : Action) → length (takeAction r x true a .after .senders) ≡ length (r .senders)
 unfolding takeAction

@@ -27,53 +27,54 @@ withMarks b s c = record { own = b .own; last = b .last; started = s; confirmed 
 abbrev pub withPhases : State → Phase → Phase → State
 withPhases b v w = record { own = b .own; last = b .last; started = b .started; confirmed = b .confirmed; vote = v; adjust = w; adjustment = b .adjustment }
 
--- what an action does: it says nothing, or something, or something once the readings are counted
-abbrev pub saying : State → Sender → Message → Bool → Change
-saying b e s counts = record { state = b; kept = e; message = s; counts = counts }
+-- what an action does: it sends message s, once the readings are counted if `counts`; or it sends nothing
+abbrev pub sends : State → Sender → Message → Bool → Change
+sends b e s counts = record { state = b; kept = e; message = s; counts = counts }
 
-abbrev pub quiet : State → Sender → Change
-quiet b e = saying b e NoMessage false
+abbrev pub sendsNothing : State → Sender → Change
+sendsNothing b e = sends b e NoMessage false
+
+abbrev pub sendsIf : Bool → State → Sender → Message → Bool → Change
+sendsIf t b e s counts = cond t (sends b e s counts) (sendsNothing b e)
 
 unfoldable pub waits : Phase → Bool
 waits p = p .turn && (not (p .closed) && not (isNumber (p .choice)))
 
 unfoldable pub leading : State → Sender → Change
-leading b e = cond (waits (b .vote)) (saying b e (VoteMessage (b .own)) true) (quiet b e)
+leading b e = sendsIf (waits (b .vote)) b e (VoteMessage (b .own)) true
 
 unfoldable pub startDelivered : State → Sender → Change
-startDelivered b e = cond (b .adjust .closed) (quiet b e) (leading b (withStart e (SomeReading (b .last))))
+startDelivered b e = cond (b .adjust .closed) (sendsNothing b e) (leading b (withStart e (SomeReading (b .last))))
 
 unfoldable pub voteTurn : State → Sender → Change
 voteTurn b e = leading (withPhases b (takeTurn (b .vote)) (b .adjust)) e
 
 unfoldable pub voteDelivered : State → Sender → ℕ → ℕ → OptReading → Change
 voteDelivered b e k c x =
-    cond (b .vote .closed || not (isAbove k (e .voted))) (quiet b e)
-    (cond (outranks c (b .vote .choice)) (saying b (withVoted (withVoteReading e x) k) (VoteMessage c) false)
-    (quiet b (withVoted (withVoteReading e x) k)))
+    cond (b .vote .closed || not (isAbove k (e .voted))) (sendsNothing b e)
+    (sendsIf (outranks c (b .vote .choice)) b (withVoted (withVoteReading e x) k) (VoteMessage c) false)
 
 unfoldable pub adjustTurn : State → Sender → Change
 adjustTurn b e =
-    cond (isNumber (b .vote .choice) && not (isNumber (b .adjust .choice)))
-    (saying (withPhases b (b .vote) (takeTurn (b .adjust))) e (AdjustMessage (b .own) (reading 0)) true)
-    (quiet (withPhases b (b .vote) (takeTurn (b .adjust))) e)
+    sendsIf (isNumber (b .vote .choice) && not (isNumber (b .adjust .choice))) (withPhases b (b .vote) (takeTurn (b .adjust))) e
+    (AdjustMessage (b .own) (reading 0)) true
 
 unfoldable pub adjustDelivered : State → Sender → ℕ → ℕ → Reading → Change
 adjustDelivered b e k c x =
-    cond (b .adjust .closed || not (isAbove k (e .adjusted))) (quiet b e)
-    (cond (outranks c (b .adjust .choice)) (saying b (withAdjusted e k) (AdjustMessage c x) false) (quiet b (withAdjusted e k)))
+    cond (b .adjust .closed || not (isAbove k (e .adjusted))) (sendsNothing b e)
+    (sendsIf (outranks c (b .adjust .choice)) b (withAdjusted e k) (AdjustMessage c x) false)
 
 abbrev pub changeOf : State → Sender → Action → Change
-changeOf b e Look = quiet b e
-changeOf b e StartSent = saying (withMarks b true (b .confirmed)) e StartMessage false
+changeOf b e Look = sendsNothing b e
+changeOf b e StartSent = sends (withMarks b true (b .confirmed)) e StartMessage false
 changeOf b e (StartDelivered p) = startDelivered b e
-changeOf b e StartConfirmed = quiet (withMarks b (b .started) true) e
+changeOf b e StartConfirmed = sendsNothing (withMarks b (b .started) true) e
 changeOf b e VoteTurn = voteTurn b e
 changeOf b e (VoteDelivered p k c x) = voteDelivered b e k c x
-changeOf b e VoteClose = quiet (withPhases b (close (b .vote)) (b .adjust)) e
+changeOf b e VoteClose = sendsNothing (withPhases b (close (b .vote)) (b .adjust)) e
 changeOf b e AdjustTurn = adjustTurn b e
 changeOf b e (AdjustDelivered p k c x) = adjustDelivered b e k c x
-changeOf b e AdjustClose = quiet (withPhases b (b .vote) (close (b .adjust))) e
+changeOf b e AdjustClose = sendsNothing (withPhases b (b .vote) (close (b .adjust))) e
 
 abbrev pub senderOf : ℕ → Action → ℕ
 senderOf own Look = own

@@ -8,7 +8,7 @@ use protocol::Reading;
 use protocol::Sender;
 use taking::adjust_delivered;
 use taking::adjust_turn;
-use taking::silently;
+use taking::send_nothing;
 use taking::start_delivered;
 use taking::vote_delivered;
 use taking::vote_turn;
@@ -83,7 +83,7 @@ pub fn act(b: State, e: Sender, a: Action) -> Change
 {
     let mut t = b;
     match a {
-        Action::Look => silently(b, e),
+        Action::Look => send_nothing(b, e),
         Action::StartSent => {
             t.started = true;
             Change {
@@ -96,19 +96,19 @@ pub fn act(b: State, e: Sender, a: Action) -> Change
         Action::StartDelivered(_) => start_delivered(b, e),
         Action::StartConfirmed => {
             t.confirmed = true;
-            silently(t, e)
+            send_nothing(t, e)
         }
         Action::VoteTurn => vote_turn(b, e),
         Action::VoteDelivered(_, k, c, x) => vote_delivered(b, e, k, c, x),
         Action::VoteClose => {
             t.vote.closed = true;
-            silently(t, e)
+            send_nothing(t, e)
         }
         Action::AdjustTurn => adjust_turn(b, e),
         Action::AdjustDelivered(_, k, c, x) => adjust_delivered(b, e, k, c, x),
         Action::AdjustClose => {
             t.adjust.closed = true;
-            silently(t, e)
+            send_nothing(t, e)
         }
     }
 }

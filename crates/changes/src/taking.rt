@@ -12,7 +12,7 @@ ghost use mathlib.Core.Path.{_≡_};
 ghost use mathlib.Core.Bool.{not, _&&_, _||_};
 ghost use Rattle.protocol.specs.Record.{isNumber};
 ghost use Rattle.protocol.specs.Step.{isAbove, outranks, withStart, withVoteReading, withVoted, withAdjusted};
-ghost use Rattle.changes.specs.Changes.{quiet, saying, waits, leading, startDelivered, voteDelivered, adjustDelivered, voteTurn, adjustTurn};
+ghost use Rattle.changes.specs.Changes.{sendsNothing, sendsIf, waits, leading, startDelivered, voteDelivered, adjustDelivered, voteTurn, adjustTurn};
 
 // Whether serial k is above the last one taken.
 pub fn is_above(k: u8, last: OptNumber) -> bool
@@ -82,8 +82,8 @@ pub fn with_adjusted(k: Sender, j: u8) -> Sender
     }
 }
 
-pub fn silently(b: State, e: Sender) -> Change
-    ensures { λ d. ⌜ d ≡ quiet b e ⌝ }
+pub fn send_nothing(b: State, e: Sender) -> Change
+    ensures { λ d. ⌜ d ≡ sendsNothing b e ⌝ }
 {
     Change {
         state: b,
@@ -93,14 +93,19 @@ pub fn silently(b: State, e: Sender) -> Change
     }
 }
 
-fn say(b: State, e: Sender, s: Message, counts: bool) -> Change
-    ensures { λ d. ⌜ d ≡ saying b e s counts ⌝ }
+// Sends s where `sends`, once the readings are counted where `counts`; else nothing.
+fn send_if(sends: bool, b: State, e: Sender, s: Message, counts: bool) -> Change
+    ensures { λ d. ⌜ d ≡ sendsIf sends b e s counts ⌝ }
 {
-    Change {
-        state: b,
-        kept: e,
-        message: s,
-        counts,
+    if sends {
+        Change {
+            state: b,
+            kept: e,
+            message: s,
+            counts,
+        }
+    } else {
+        send_nothing(b, e)
     }
 }
 
@@ -117,18 +122,14 @@ fn leading(b: State, e: Sender) -> Change
     ensures { λ d. ⌜ d ≡ leading b e ⌝ }
 {
     let v = b.vote;
-    if waits(v) {
-        say(b, e, Message::VoteMessage(b.own), true)
-    } else {
-        silently(b, e)
-    }
+    send_if(waits(v), b, e, Message::VoteMessage(b.own), true)
 }
 
 pub fn start_delivered(b: State, e: Sender) -> Change
     ensures { λ d. ⌜ d ≡ startDelivered b e ⌝ }
 {
     if b.adjust.closed {
-        return silently(b, e);
+        return send_nothing(b, e);
     }
     let last = b.last;
     leading(b, with_start(e, last))
@@ -149,15 +150,16 @@ pub fn vote_delivered(b: State, e: Sender, k: u8, c: u8, x: OptReading) -> Chang
     let last = e.voted;
     let v = b.vote;
     if passed_over(v, k, last) {
-        return silently(b, e);
+        return send_nothing(b, e);
     }
-    let t = with_vote(e, x, k);
     let choice = v.choice;
-    if outranks(c, choice) {
-        say(b, t, Message::VoteMessage(c), false)
-    } else {
-        silently(b, t)
-    }
+    send_if(
+        outranks(c, choice),
+        b,
+        with_vote(e, x, k),
+        Message::VoteMessage(c),
+        false,
+    )
 }
 
 // Whether there is a candidate c and no adjuster a.
@@ -177,11 +179,13 @@ pub fn adjust_turn(b: State, e: Sender) -> Change
     let c = v.choice;
     let w = b.adjust;
     let a = w.choice;
-    if may_adjust(c, a) {
-        say(t, e, Message::AdjustMessage(b.own, Reading(0)), true)
-    } else {
-        silently(t, e)
-    }
+    send_if(
+        may_adjust(c, a),
+        t,
+        e,
+        Message::AdjustMessage(b.own, Reading(0)),
+        true,
+    )
 }
 
 // An adjust with serial k, adjuster c and adjustment x.
@@ -191,13 +195,14 @@ pub fn adjust_delivered(b: State, e: Sender, k: u8, c: u8, x: Reading) -> Change
     let last = e.adjusted;
     let w = b.adjust;
     if passed_over(w, k, last) {
-        return silently(b, e);
+        return send_nothing(b, e);
     }
-    let t = with_adjusted(e, k);
     let choice = w.choice;
-    if outranks(c, choice) {
-        say(b, t, Message::AdjustMessage(c, x), false)
-    } else {
-        silently(b, t)
-    }
+    send_if(
+        outranks(c, choice),
+        b,
+        with_adjusted(e, k),
+        Message::AdjustMessage(c, x),
+        false,
+    )
 }

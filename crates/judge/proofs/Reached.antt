@@ -19,7 +19,8 @@ use Rattle.protocol.proofs.Ranges.{votes-below}
 use Rattle.protocol.proofs.Phases.{sent}
 use Rattle.sets.specs.Sets.{setOf, withHead, hasHead, hasAll}
 use Rattle.sets.proofs.Sets.{set-with, set-has, set-ext, same-test}
-use Rattle.reached.specs.Frames.{receiversPlace, sendingPlace, frameReached, tookIn, tookPart, startReached, phaseTaken, headReached}
+use Rattle.places.specs.Places.{placeFor}
+use Rattle.reached.specs.Frames.{receiversPlace, frameReached, tookIn, tookPart, startReached, phaseTaken, headReached}
 use Rattle.sheet.specs.Bench.{actionAt, headAt, serialAt}
 use Rattle.sheet.proofs.Tables.{table-at}
 use Rattle.judge.specs.Seen.{tookSets, receiverSets, sendingEntry, sendingEntries}
@@ -68,14 +69,14 @@ took-in s a p ha hp =
     ∙ set-has 16 (λ q. took a q s) p hp
 
 -- the place of the index of the entry that sent a frame
-pub sending-at : (h : History) (k : Kind) (p j : ℕ) → p < 16 → j < 16 → getD (sendingEntries h) (sendingPlace (delivery k) p j) 0 ≡ sendingEntry h (delivery k) p j
+pub sending-at : (h : History) (k : Kind) (p j : ℕ) → p < 16 → j < 16 → getD (sendingEntries h) (placeFor (delivery k) p j) 0 ≡ sendingEntry h (delivery k) p j
 unfolding sendingEntries
 sending-at h k p j hp hj = at k
   where
     same : (x a y b z c : ℕ) → x ≡ a → y ≡ b → z ≡ c → sendingEntry h x y z ≡ sendingEntry h a b c
     same x a y b z c e f g = rw (e, f, g) refl
 
-    at : (k : Kind) → getD (sendingEntries h) (sendingPlace (delivery k) p j) 0 ≡ sendingEntry h (delivery k) p j
+    at : (k : Kind) → getD (sendingEntries h) (placeFor (delivery k) p j) 0 ≡ sendingEntry h (delivery k) p j
     at votes =
         table-at (λ j. sendingEntry h (actionAt j) (headAt j) (serialAt j)) 512 (0 + p % 16 * 16 + j % 16) 0 (omega arith)
         ∙ same _ 5 _ p _ j (rw (lt-ltb (0 + p % 16 * 16 + j % 16) 256 (omega arith)) refl) (omega arith) (omega arith)
@@ -116,7 +117,7 @@ module _ {g : Setting} (H : Heads g) (fit : headsFit (g .n) (g .f) ≡ true) {s 
       delivery-below votes = omega arith
       delivery-below adjusts = omega arith
 
-      sent-then : (j : ℕ) → j < 16 → ltb (getD (sendingEntries h) (sendingPlace (delivery k) p j) 0) (length s) ≡ ltb j (sent g k s p)
+      sent-then : (j : ℕ) → j < 16 → ltb (getD (sendingEntries h) (placeFor (delivery k) p j) 0) (length s) ≡ ltb j (sent g k s p)
       sent-then j l = ap (λ (i : ℕ). ltb i (length s)) (sending-at h k p j (low p c) l) ∙ sym (by-then (delivery k) p j x few) ∙ sym (sent-below g k v p j)
 
   -- PREMISES

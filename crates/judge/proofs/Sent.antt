@@ -18,7 +18,7 @@ use Rattle.protocol.proofs.Tests.{absurd-bool, cases}
 use Rattle.protocol.proofs.Moments.{Earlier, now, later}
 use Rattle.protocol.proofs.Effects.{Kind, votes, adjusts, phaseOf, delivery, named}
 use Rattle.protocol.proofs.Valid.{Valid, start, more, by-head, frame-fits}
-use Rattle.protocol.proofs.Phases.{orNumber, names, sent, names-other, sent-other, Turn, quiet, spoke, turn, serial-below}
+use Rattle.protocol.proofs.Phases.{orNumber, names, sent, names-other, sent-other, Turn, sends-none, sends-one, turn, serial-below}
 use Rattle.sheet.specs.Bench.{sentAt}
 use Rattle.sets.proofs.Sets.{same-test}
 use Rattle.judge.specs.Seen.{sendingEntry}
@@ -47,8 +47,8 @@ module _ (g : Setting) (k : Kind) where
 
       at-head : Turn g k s e → (j < sent g k s (e .entry .head) → isNumber (names g k s (e .entry .head) j) ≡ true)
           → j < sent g k (e ∷ s) (e .entry .head) → isNumber (names g k (e ∷ s) (e .entry .head) j) ≡ true
-      at-head (quiet z) ih h = ap isNumber (z .names-same j) ∙ ih (subst (λ (i : ℕ). j < i) (z .sent-same) h)
-      at-head (spoke z) ih h =
+      at-head (sends-none z) ih h = ap isNumber (z .names-same j) ∙ ih (subst (λ (i : ℕ). j < i) (z .sent-same) h)
+      at-head (sends-one z) ih h =
           ap isNumber (z .names-new j)
           ∙ cases (eqb (sent g k s (e .entry .head)) j)
           (λ t. rw t (added (names g k s (e .entry .head) j) (z .choice)))

@@ -1,2 +1,3 @@
--- What the code of the median counts.
+-- Readings counted, and the rank of a number.
+pub mod Held
 pub mod Ranks

@@ -1,14 +1,17 @@
 // How many readings a record holds, and the median of its vote readings by counting ranks.
 ghost use mathlib.Core.Path.{_≡_};
+ghost use mathlib.Core.Bool.{cond};
 ghost use Prim.Native.Nat.{_≤_};
 ghost use lib.ListN.{length, getD};
 ghost use Rattle.protocol.specs.Median.{median, inOrder};
 ghost use Rattle.protocol.specs.Record.{reading};
 ghost use Rattle.protocol.specs.Step.{startsHeld, voteReadings};
 ghost use Rattle.median.specs.Ranks.{heldOf, belowIn, uptoIn, covers};
+ghost use Rattle.median.specs.Held.{heldBelow};
 use protocol::HeadRecord;
 use protocol::OptReading;
 use protocol::Reading;
+use protocol::Sender;
 
 // 1 for a reading, 0 for none.
 fn held(k: OptReading) -> u8
@@ -20,38 +23,41 @@ fn held(k: OptReading) -> u8
     }
 }
 
-// How many start readings are held.
-pub fn starts_held(r: HeadRecord) -> u8
+// The vote reading that is kept of a sender where `votes`; else its start reading.
+fn kept_reading(e: Sender, votes: bool) -> OptReading
+    ensures { λ x. ⌜ x ≡ cond votes (e .vote) (e .start) ⌝ }
+{
+    if votes { e.vote } else { e.start }
+}
+
+// How many vote readings are held where `votes`; else how many start readings.
+fn readings_held(r: HeadRecord, votes: bool) -> u8
     requires { ⌜ r .n ≤ 16 ⌝ }
-    ensures { λ k. ⌜ k ≡ startsHeld r ⌝ }
+    ensures { λ k. ⌜ k ≡ heldBelow votes r (r .n) ⌝ }
 {
     let n = r.n as usize;
     let mut k: u8 = 0;
     let mut i: usize = 0;
     while i < n {
         let e = r.senders[i];
-        let s = e.start;
-        k += held(s);
+        k += held(kept_reading(e, votes));
         i += 1;
     }
     k
 }
 
-// How many vote readings are held.
+pub fn starts_held(r: HeadRecord) -> u8
+    requires { ⌜ r .n ≤ 16 ⌝ }
+    ensures { λ k. ⌜ k ≡ startsHeld r ⌝ }
+{
+    readings_held(r, false)
+}
+
 pub fn votes_held(r: HeadRecord) -> u8
     requires { ⌜ r .n ≤ 16 ⌝ }
     ensures { λ k. ⌜ k ≡ length (voteReadings r (r .n)) ⌝ }
 {
-    let n = r.n as usize;
-    let mut k: u8 = 0;
-    let mut i: usize = 0;
-    while i < n {
-        let e = r.senders[i];
-        let y = e.vote;
-        k += held(y);
-        i += 1;
-    }
-    k
+    readings_held(r, true)
 }
 
 // 1 for a reading below x, and for one of at most x.

@@ -12,9 +12,9 @@ use Rattle.protocol.specs.Record.{fresh}
 use Rattle.protocol.specs.Step.{vote, adjust, accepted}
 use Rattle.protocol.specs.Run.{Event, History, recordOf, isDeliveredBy, orElse, frameSent, isFrame, carriedReading}
 use Rattle.protocol.proofs.Tests.{absurd-bool, eqb-same}
-use Rattle.protocol.proofs.Effects.{adjusts, Delivery, named, Speech, nothing, voting, adjusting, utter, prepared, speechOf, Spoken, says-adjust, spoken, Why, itself, told, Source, computed, passed-on, closed-last, none-is-some, same-number}
+use Rattle.protocol.proofs.Effects.{adjusts, Delivery, named, Sending, nothing, voting, adjusting, send, prepared, sendingOf, Allowed, sends-adjust, allowed, Why, itself, told, Source, computed, passed-on, closed-last, none-is-some, same-number}
 use Rattle.protocol.proofs.Valid.{baseOf, Taken, Valid, start, more, record-at, record-other, by-head, of-effect, fixed, frame-fits}
-use Rattle.protocol.proofs.Phases.{held, sent, names, names-other, sent-other, unsent, Spoke, turn, frame-new, held-sent, last-frame, frame-stays}
+use Rattle.protocol.proofs.Phases.{held, sent, names, names-other, sent-other, unsent, SendsOne, turn, frame-new, held-sent, last-frame, frame-stays}
 
 -- what the adjust of p under serial j carries
 abbrev pub adjustmentSent : History → ℕ → ℕ → OptReading
@@ -35,7 +35,7 @@ module _ (g : Setting) where
 
   pub adjusting-at : {s : History} {e : Event} → Taken g s e → Valid g s → Adjusting s e
   unfolding vote adjust
-  adjusting-at {s} {e} t v = go (speechOf r a) (spoken r a (closed-last _ _ a ∙ t .is-open)) refl
+  adjusting-at {s} {e} t v = go (sendingOf r a) (allowed r a (closed-last _ _ a ∙ t .is-open)) refl
     where
       a : Action
       a = t .action
@@ -44,8 +44,8 @@ module _ (g : Setting) where
       r = baseOf g s e
 
       -- a fact of the answer is a fact of the event
-      at : (x : Speech) → speechOf r a ≡ x → (P : Stepped → Type 0) → P (utter x (prepared r a)) → P (accepted (e .after) (e .frame))
-      at x u P h = of-effect g P t (subst (λ (y : Speech). P (utter y (prepared r a))) (sym u) h)
+      at : (x : Sending) → sendingOf r a ≡ x → (P : Stepped → Type 0) → P (send x (prepared r a)) → P (accepted (e .after) (e .frame))
+      at x u P h = of-effect g P t (subst (λ (y : Sending). P (send y (prepared r a))) (sym u) h)
 
       origin : (c : ℕ) (x : Reading) → Why adjusts r a c → Source r a x → Origin s e c x
       origin c x (itself is none tu) z = own (is ∙ fixed g v (e .entry .head) .own-is) none
@@ -57,17 +57,17 @@ module _ (g : Setting) where
           (subst (λ (y : ℕ). carriedReading (frameSent s y (e .entry .sender) (e .entry .serial)) ≡ SomeReading x) is
           (ap (λ (d : Delivery). carriedReading (d .frame)) (sym (t .asked .delivery-is)) ∙ ca))
 
-      same : (x : Speech) → speechOf r a ≡ x → utter x (prepared r a) .after .adjustment ≡ r .adjustment → utter x (prepared r a) .after .adjust .sent ≡ r .adjust .sent
-          → ((j : ℕ) → isDeliveredBy 8 j (utter x (prepared r a) .frame) ≡ false) → Adjusting s e
+      same : (x : Sending) → sendingOf r a ≡ x → send x (prepared r a) .after .adjustment ≡ r .adjustment → send x (prepared r a) .after .adjust .sent ≡ r .adjust .sent
+          → ((j : ℕ) → isDeliveredBy 8 j (send x (prepared r a) .frame) ≡ false) → Adjusting s e
       same x u ad se fr =
           unchanged (at x u (λ y. y .after .adjustment ≡ recordOf g s (e .entry .head) .adjustment) ad)
           (at x u (λ y. y .after .adjust .sent ≡ sent g adjusts s (e .entry .head)) se) (λ j. at x u (λ y. isDeliveredBy 8 j (y .frame) ≡ false) (fr j))
 
-      go : (x : Speech) → Spoken r a x → speechOf r a ≡ x → Adjusting s e
+      go : (x : Sending) → Allowed r a x → sendingOf r a ≡ x → Adjusting s e
       go nothing w u = same nothing u refl refl (λ j. refl)
-      go Speech.start w u = same Speech.start u refl refl (λ j. refl)
+      go Sending.start w u = same Sending.start u refl refl (λ j. refl)
       go (voting c) w u = same (voting c) u refl refl (λ j. refl)
-      go (adjusting c x) (says-adjust w z) u =
+      go (adjusting c x) (sends-adjust w z) u =
           sends c x (at (adjusting c x) u (λ y. y .after .adjustment ≡ x) refl)
           (at (adjusting c x) u (λ y. y .after .adjust .choice ≡ SomeNumber c) refl)
           (at (adjusting c x) u (λ y. y .after .adjust .sent ≡ sent g adjusts s (e .entry .head) + 1) refl)
@@ -127,7 +127,7 @@ module _ (g : Setting) where
       let j = sent g adjusts s (e .entry .head) in
       value-new e s j (unsent g adjusts v (e .entry .head)) (rw (fr, eqb-same j) refl) ∙ rw fr refl
 
-  single-new : {s : History} {e : Event} → Taken g s e → Valid g s → ((p j c : ℕ) → names g adjusts s p j ≡ SomeNumber c → Single s c (adjustmentSent s p j)) → (z : Spoke g adjusts s e)
+  single-new : {s : History} {e : Event} → Taken g s e → Valid g s → ((p j c : ℕ) → names g adjusts s p j ≡ SomeNumber c → Single s c (adjustmentSent s p j)) → (z : SendsOne g adjusts s e)
       → Adjusting s e → Single (e ∷ s) (z .choice) (adjustmentSent (e ∷ s) (e .entry .head) (sent g adjusts s (e .entry .head)))
   single-new {s} {e} t v ih z (unchanged ad se fr) = absurd (let y = ap (λ (r : HeadRecord). r .adjust .sent) (sym (record-at g e s)) ∙ z .sent-new in omega arith)
   single-new {s} {e} t v ih z (sends c x ad ch se fr o) =

@@ -21,7 +21,7 @@ use Rattle.protocol.specs.Premises.{takes, receives, took, received, cor
 use Rattle.protocol.specs.Claim.{CorrectHead}
 use Rattle.protocol.proofs.Tests.{absurd-bool, cases, and-left, and-right, and-both, or-second, or-left, or-cases, implied, not-false, count-mono}
 use Rattle.protocol.proofs.Moments.{Earlier, now, earlier-trans, earlier-past, any-grows, any-map, find, each-at}
-use Rattle.protocol.proofs.Effects.{votes, adjusts, number, prepared, Speech, nothing, adjusting, utter, speechOf, said, chosenBy, chosen-closed, spoken, speaks, closed-last, prepared-same, none-is-some, own-kept, own-unspoken, own-spoken}
+use Rattle.protocol.proofs.Effects.{votes, adjusts, number, prepared, Sending, nothing, adjusting, send, sendingOf, namedIn, chosenBy, chosen-closed, allowed, naming, closed-last, prepared-same, none-is-some, own-kept, own-unsent, own-sent}
 use Rattle.protocol.proofs.Valid.{baseOf, Valid, start, more, valid-past, valid-taken, valid-earlier, Taken, record-at, record-other, by-head, of-effect, fixed, closed-took, turn-took}
 use Rattle.protocol.proofs.Ranges.{run-in-range}
 use Rattle.protocol.proofs.Phases.{held, held-other, own, turn, phase-at, delivered-choice, held-sent, falls-later}
@@ -60,11 +60,11 @@ is-adjust-turn AdjustClose e = absurd (omega arith)
 
 -- at its adjust turn a head with a candidate and a vote reading of its own has an adjuster, or becomes one
 turn-adjusts : (r : HeadRecord) (v : ℕ) → r .vote .choice ≡ SomeNumber v → r .own < r .n → isReading (voteOf r (r .own)) ≡ true
-    → isNumber (utter (speechOf r AdjustTurn) (prepared r AdjustTurn) .after .adjust .choice) ≡ true
+    → isNumber (send (sendingOf r AdjustTurn) (prepared r AdjustTurn) .after .adjust .choice) ≡ true
 unfolding mayAdjust adjust
 turn-adjusts r v e l k = go (mayAdjust (prepared r AdjustTurn)) _ refl
   where
-    go : (b : Bool) (x : Reading) → mayAdjust (prepared r AdjustTurn) ≡ b → isNumber (utter (cond b (adjusting (r .own) x) nothing) (prepared r AdjustTurn) .after .adjust .choice) ≡ true
+    go : (b : Bool) (x : Reading) → mayAdjust (prepared r AdjustTurn) ≡ b → isNumber (send (cond b (adjusting (r .own) x) nothing) (prepared r AdjustTurn) .after .adjust .choice) ≡ true
     go true x u = refl
     go false x u =
         cases (isNumber (r .adjust .choice)) (λ y. y)
@@ -185,10 +185,10 @@ module _ {g : Setting} {h : History} (r : Round g h) where
         → voteOf (recordOf g (e ∷ s) (e .entry .head)) (e .entry .head) ≡ startOf (recordOf g (e ∷ s) (e .entry .head)) c → OwnReading s e
 
   own-reading-at : {s : History} {e : Event} → Taken g s e → Valid g s → OwnReading s e
-  own-reading-at {s} {e} t v = go (said votes x) refl
+  own-reading-at {s} {e} t v = go (namedIn votes x) refl
     where
-      x : Speech
-      x = speechOf (baseOf g s e) (t .action)
+      x : Sending
+      x = sendingOf (baseOf g s e) (t .action)
 
       m : HeadRecord
       m = prepared (baseOf g s e) (t .action)
@@ -204,24 +204,24 @@ module _ {g : Setting} {h : History} (r : Round g h) where
           let size = prepared-same (baseOf g s e) (t .action) .size ∙ fixed g v (e .entry .head) .size-is in
           let eq = own-is in let l = t .head-below in let z = r .sheet .at-most-16 in omega arith
 
-      -- a reading of the record after the speech
-      reads : (f : HeadRecord → OptReading) → voteOf (utter x m .after) (m .own) ≡ f (utter x m .after)
+      -- a reading of the record after the sending
+      reads : (f : HeadRecord → OptReading) → voteOf (send x m .after) (m .own) ≡ f (send x m .after)
           → voteOf (recordOf g (e ∷ s) (e .entry .head)) (e .entry .head) ≡ f (recordOf g (e ∷ s) (e .entry .head))
       reads f u =
           rw (record-at g e s) (of-effect g (λ y. voteOf (y .after) (e .entry .head) ≡ f (y .after)) t
-          (subst (λ (q : ℕ). voteOf (utter x m .after) q ≡ f (utter x m .after)) own-is u))
+          (subst (λ (q : ℕ). voteOf (send x m .after) q ≡ f (send x m .after)) own-is u))
 
-      choice : held g votes (e ∷ s) (e .entry .head) ≡ chosenBy (said votes x) (m .vote) .choice
+      choice : held g votes (e ∷ s) (e .entry .head) ≡ chosenBy (namedIn votes x) (m .vote) .choice
       choice = ap (λ (p : Phase). p .choice) (phase-at g votes t)
 
-      go : (n : OptNumber) → said votes x ≡ n → OwnReading s e
+      go : (n : OptNumber) → namedIn votes x ≡ n → OwnReading s e
       go NoNumber u =
           same-reading (choice ∙ rw u refl)
-          (reads (λ _. voteOf (recordOf g s (e .entry .head)) (e .entry .head)) (own-unspoken x m u ∙ own-kept (baseOf g s e) (t .action) is-open ∙ ap (voteOf (recordOf g s (e .entry .head))) own-is))
+          (reads (λ _. voteOf (recordOf g s (e .entry .head)) (e .entry .head)) (own-unsent x m u ∙ own-kept (baseOf g s e) (t .action) is-open ∙ ap (voteOf (recordOf g s (e .entry .head))) own-is))
       go (SomeNumber c) u =
           new-reading c (choice ∙ rw u refl)
-          (ap (λ (p : Phase). p .closed) (phase-at g votes t) ∙ chosen-closed (said votes x) (m .vote) ∙ speaks votes (spoken (baseOf g s e) (t .action) is-open) u .stays-open)
-          (reads (λ y. startOf y c) (own-spoken x m c own-below u))
+          (ap (λ (p : Phase). p .closed) (phase-at g votes t) ∙ chosen-closed (namedIn votes x) (m .vote) ∙ naming votes (allowed (baseOf g s e) (t .action) is-open) u .stays-open)
+          (reads (λ y. startOf y c) (own-sent x m c own-below u))
 
   pub own-reading : {s : History} → Valid g s → Earlier s h → (q c : ℕ) → CorrectHead g q → held g votes s q ≡ SomeNumber c → isReading (voteOf (recordOf g s q) q) ≡ true
   unfolding recordOf fresh
@@ -256,7 +256,7 @@ module _ {g : Setting} {h : History} (r : Round g h) where
       let candidate = candidate-stays (earlier-past x) begun c in
       let fx = fixed g (valid-past v) (e .entry .head) in
       subst (λ (z : HeadRecord). isNumber (z .adjust .choice) ≡ true) (sym (record-at g e s)) (of-effect g (λ y. isNumber (y .after .adjust .choice) ≡ true) t
-      (subst (λ (i : Action). isNumber (utter (speechOf (baseOf g s e) i) (prepared (baseOf g s e) i) .after .adjust .choice) ≡ true) (sym is)
+      (subst (λ (i : Action). isNumber (send (sendingOf (baseOf g s e) i) (prepared (baseOf g s e) i) .after .adjust .choice) ≡ true) (sym is)
       (turn-adjusts (baseOf g s e) _ candidate (rw (fx .own-is, fx .n-is) (c .is-head))
       (subst (λ (q : ℕ). isReading (voteOf (recordOf g s (e .entry .head)) q) ≡ true) (sym (fx .own-is)) (own-reading (valid-past v) (earlier-past x) (e .entry .head) _ c candidate)))))
 

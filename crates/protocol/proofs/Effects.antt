@@ -1,6 +1,6 @@
 -- An action's effect in two parts: what the record keeps of it, and what the head then says. Every later fact about a
 -- step is a fact about these two, so the ten actions are gone through here and in few places else.
--- Main results: `effect-split`, `phase-after`, `named-after`, `spoken`.
+-- Main results: `effect-split`, `phase-after`, `named-after`, `allowed`.
 use mathlib.Core.Path.{_≡_, refl, sym, _∙_, ap, subst}
 use mathlib.Core.Bool.{Bool, true, false, cond, not, _&&_, _||_}
 use mathlib.Core.List.{List, [], _∷_}
@@ -143,43 +143,43 @@ prepared r a =
 
 -- SECOND PART: what the head says
 
-pub data Speech : Type 0 where
-  nothing start : Speech
-  voting : ℕ → Speech
-  adjusting : ℕ → Reading → Speech
+pub data Sending : Type 0 where
+  nothing start : Sending
+  voting : ℕ → Sending
+  adjusting : ℕ → Reading → Sending
 
-abbrev pub utter : Speech → HeadRecord → Stepped
-utter nothing m = silent m
-utter start m = accepted m Start
-utter (voting c) m = vote c m
-utter (adjusting c x) m = adjust c x m
+abbrev pub send : Sending → HeadRecord → Stepped
+send nothing m = silent m
+send start m = accepted m Start
+send (voting c) m = vote c m
+send (adjusting c x) m = adjust c x m
 
-abbrev pub speechOf : HeadRecord → Action → Speech
-speechOf r Look = nothing
-speechOf r StartSent = start
-speechOf r (StartDelivered p) =
+abbrev pub sendingOf : HeadRecord → Action → Sending
+sendingOf r Look = nothing
+sendingOf r StartSent = start
+sendingOf r (StartDelivered p) =
     cond (r .adjust .closed) nothing
     (cond (mayLead (withSenders r (set (r .senders) p (withStart (keptOf r p) (SomeReading (r .last)))))) (voting (r .own)) nothing)
-speechOf r StartConfirmed = nothing
-speechOf r VoteTurn = cond (mayLead (prepared r VoteTurn)) (voting (r .own)) nothing
-speechOf r (VoteDelivered p k c x) = cond (passedOver votes r p k) nothing (cond (outranks c (r .vote .choice)) (voting c) nothing)
-speechOf r VoteClose = nothing
-speechOf r AdjustTurn =
+sendingOf r StartConfirmed = nothing
+sendingOf r VoteTurn = cond (mayLead (prepared r VoteTurn)) (voting (r .own)) nothing
+sendingOf r (VoteDelivered p k c x) = cond (passedOver votes r p k) nothing (cond (outranks c (r .vote .choice)) (voting c) nothing)
+sendingOf r VoteClose = nothing
+sendingOf r AdjustTurn =
     cond (mayAdjust (prepared r AdjustTurn)) (adjusting (r .own) (reading (median (voteReadings (prepared r AdjustTurn) (r .n))))) nothing
-speechOf r (AdjustDelivered p k c x) = cond (passedOver adjusts r p k) nothing (cond (outranks c (r .adjust .choice)) (adjusting c x) nothing)
-speechOf r AdjustClose = nothing
+sendingOf r (AdjustDelivered p k c x) = cond (passedOver adjusts r p k) nothing (cond (outranks c (r .adjust .choice)) (adjusting c x) nothing)
+sendingOf r AdjustClose = nothing
 
-split-if : (o : Bool) (m : HeadRecord) (x : Speech) → cond o (utter x m) (silent m) ≡ utter (cond o x nothing) m
+split-if : (o : Bool) (m : HeadRecord) (x : Sending) → cond o (send x m) (silent m) ≡ send (cond o x nothing) m
 split-if true m x = refl
 split-if false m x = refl
 
-split-delivery : (b o : Bool) (r : HeadRecord) (l : List Sender) (x : Speech)
-    → cond b (silent r) (cond o (utter x (withSenders r l)) (silent (withSenders r l)))
-    ≡ utter (cond b nothing (cond o x nothing)) (withSenders r (cond b (r .senders) l))
+split-delivery : (b o : Bool) (r : HeadRecord) (l : List Sender) (x : Sending)
+    → cond b (silent r) (cond o (send x (withSenders r l)) (silent (withSenders r l)))
+    ≡ send (cond b nothing (cond o x nothing)) (withSenders r (cond b (r .senders) l))
 split-delivery true o r l x = refl
 split-delivery false o r l x = split-if o (withSenders r l) x
 
-pub effect-split : (r : HeadRecord) (a : Action) → effect r a ≡ utter (speechOf r a) (prepared r a)
+pub effect-split : (r : HeadRecord) (a : Action) → effect r a ≡ send (sendingOf r a) (prepared r a)
 unfolding effect lead propose delivered
 effect-split r Look = refl
 effect-split r StartSent = refl
@@ -192,23 +192,23 @@ effect-split r AdjustTurn = split-if (mayAdjust (prepared r AdjustTurn)) (prepar
 effect-split r (AdjustDelivered p k c x) = split-delivery (passedOver adjusts r p k) (outranks c (r .adjust .choice)) r _ (adjusting c x)
 effect-split r AdjustClose = refl
 
--- whom a speech of the phase names
-abbrev pub said : Kind → Speech → OptNumber
-said votes nothing = NoNumber
-said votes start = NoNumber
-said votes (voting c) = SomeNumber c
-said votes (adjusting c x) = NoNumber
-said adjusts nothing = NoNumber
-said adjusts start = NoNumber
-said adjusts (voting c) = NoNumber
-said adjusts (adjusting c x) = SomeNumber c
+-- whom a sending of the phase names
+abbrev pub namedIn : Kind → Sending → OptNumber
+namedIn votes nothing = NoNumber
+namedIn votes start = NoNumber
+namedIn votes (voting c) = SomeNumber c
+namedIn votes (adjusting c x) = NoNumber
+namedIn adjusts nothing = NoNumber
+namedIn adjusts start = NoNumber
+namedIn adjusts (voting c) = NoNumber
+namedIn adjusts (adjusting c x) = SomeNumber c
 
--- a phase after a speech: unchanged, or with the choice named and one more frame sent
+-- a phase after a sending: unchanged, or with the choice named and one more frame sent
 abbrev pub chosenBy : OptNumber → Phase → Phase
 chosenBy NoNumber p = p
 chosenBy (SomeNumber c) p = choose c p
 
-pub phase-after : (k : Kind) (x : Speech) (m : HeadRecord) → phaseOf k (utter x m .after) ≡ chosenBy (said k x) (phaseOf k m)
+pub phase-after : (k : Kind) (x : Sending) (m : HeadRecord) → phaseOf k (send x m .after) ≡ chosenBy (namedIn k x) (phaseOf k m)
 unfolding vote adjust
 phase-after votes nothing m = refl
 phase-after votes start m = refl
@@ -240,7 +240,7 @@ pub phase-last : (k : Kind) (r : HeadRecord) (x : Reading) → phaseOf k (withLa
 phase-last votes r x = refl
 phase-last adjusts r x = refl
 
--- a speech leaves the marks of a phase
+-- a sending leaves the marks of a phase
 pub chosen-turn : (m : OptNumber) (p : Phase) → chosenBy m p .turn ≡ p .turn
 chosen-turn NoNumber p = refl
 chosen-turn (SomeNumber c) p = refl
@@ -249,12 +249,12 @@ pub chosen-closed : (m : OptNumber) (p : Phase) → chosenBy m p .closed ≡ p .
 chosen-closed NoNumber p = refl
 chosen-closed (SomeNumber c) p = refl
 
--- the frame of a speech: of the phase, its serial is the number sent before, and it names the choice
-abbrev pub saidUnder : OptNumber → ℕ → ℕ → OptNumber
-saidUnder NoNumber i j = NoNumber
-saidUnder (SomeNumber c) i j = cond (eqb i j) (SomeNumber c) NoNumber
+-- the frame of a sending: of the phase, its serial is the number sent before, and it names the choice
+abbrev pub namedUnder : OptNumber → ℕ → ℕ → OptNumber
+namedUnder NoNumber i j = NoNumber
+namedUnder (SomeNumber c) i j = cond (eqb i j) (SomeNumber c) NoNumber
 
-pub named-after : (k : Kind) (x : Speech) (m : HeadRecord) (j : ℕ) → namedBy k j (utter x m .frame) ≡ saidUnder (said k x) (phaseOf k m .sent) j
+pub named-after : (k : Kind) (x : Sending) (m : HeadRecord) (j : ℕ) → namedBy k j (send x m .frame) ≡ namedUnder (namedIn k x) (phaseOf k m .sent) j
 unfolding vote adjust
 named-after votes nothing m j = refl
 named-after votes start m j = refl
@@ -265,12 +265,12 @@ named-after adjusts start m j = refl
 named-after adjusts (voting c) m j = refl
 named-after adjusts (adjusting c x) m j = refl
 
--- why a head speaks: it has no choice and its turn is taken, or it is delivered a frame that outranks its choice
+-- why a head names c: it has no choice and its turn is taken, or it is delivered a frame that outranks its choice
 pub data Why (k : Kind) (r : HeadRecord) (a : Action) (c : ℕ) : Type 0 where
   itself : c ≡ r .own → phaseOf k r .choice ≡ NoNumber → phaseOf k (prepared r a) .turn ≡ true → Why k r a c
   told : number a ≡ delivery k → named (deliveryIn a .frame) ≡ SomeNumber c → Why k r a c
 
-pub record Speaks (k : Kind) (r : HeadRecord) (a : Action) (c : ℕ) : Type 0 where
+pub record Naming (k : Kind) (r : HeadRecord) (a : Action) (c : ℕ) : Type 0 where
   pub is-open : phaseOf k r .closed ≡ false
   pub stays-open : phaseOf k (prepared r a) .closed ≡ false
   pub higher : outranks c (phaseOf k r .choice) ≡ true
@@ -281,62 +281,62 @@ pub data Source (r : HeadRecord) (a : Action) (x : Reading) : Type 0 where
   computed : number a ≡ 7 → x ≡ reading (median (voteReadings (prepared r a) (r .n))) → Source r a x
   passed-on : number a ≡ 8 → carriedReading (deliveryIn a .frame) ≡ SomeReading x → Source r a x
 
-pub data Spoken (r : HeadRecord) (a : Action) : Speech → Type 0 where
-  says-nothing : Spoken r a nothing
-  says-start : number a ≡ 1 → Spoken r a start
-  says-vote : {c : ℕ} → Speaks votes r a c → Spoken r a (voting c)
-  says-adjust : {c : ℕ} {x : Reading} → Speaks adjusts r a c → Source r a x → Spoken r a (adjusting c x)
+pub data Allowed (r : HeadRecord) (a : Action) : Sending → Type 0 where
+  sends-nothing : Allowed r a nothing
+  sends-start : number a ≡ 1 → Allowed r a start
+  sends-vote : {c : ℕ} → Naming votes r a c → Allowed r a (voting c)
+  sends-adjust : {c : ℕ} {x : Reading} → Naming adjusts r a c → Source r a x → Allowed r a (adjusting c x)
 
 pub no-number : (m : OptNumber) → isNumber m ≡ false → m ≡ NoNumber
 no-number NoNumber e = refl
 no-number (SomeNumber v) e = absurd-bool refl e
 
 -- the rule after 2 and 4, at the record that the action prepared
-spoken-lead : (r m : HeadRecord) (a : Action) → m .vote .closed ≡ r .vote .closed → m .vote .choice ≡ r .vote .choice → m .vote .turn ≡ prepared r a .vote .turn
-    → m .vote .closed ≡ prepared r a .vote .closed → Spoken r a (cond (mayLead m) (voting (r .own)) nothing)
+allowed-lead : (r m : HeadRecord) (a : Action) → m .vote .closed ≡ r .vote .closed → m .vote .choice ≡ r .vote .choice → m .vote .turn ≡ prepared r a .vote .turn
+    → m .vote .closed ≡ prepared r a .vote .closed → Allowed r a (cond (mayLead m) (voting (r .own)) nothing)
 unfolding mayLead
-spoken-lead r m a cl ch tu ca =
-    cond-elim (Spoken r a) (mayLead m)
+allowed-lead r m a cl ch tu ca =
+    cond-elim (Allowed r a) (mayLead m)
     (λ t. let t2 = and-right (m .vote .turn) _ t in
     let t3 = and-right (not (m .vote .closed)) _ t2 in
     let none : r .vote .choice ≡ NoNumber = sym ch ∙ no-number _ (not-true (and-left (not (isNumber (m .vote .choice))) _ t3)) in
     let unclosed = not-true (and-left (not (m .vote .closed)) _ t2) in
-    says-vote (record {
+    sends-vote (record {
       is-open = sym cl ∙ unclosed;
       stays-open = sym ca ∙ unclosed;
       higher = rw none refl;
       why = itself refl none (sym tu ∙ and-left (m .vote .turn) _ t);
     }))
-    (λ _. says-nothing)
+    (λ _. sends-nothing)
 
 -- a delivered frame, passed over or taken
-spoken-delivery : (k : Kind) (r : HeadRecord) (a : Action) (p j c : ℕ) (x : Speech) → number a ≡ delivery k → named (deliveryIn a .frame) ≡ SomeNumber c
-    → (Speaks k r a c → Spoken r a x) → Spoken r a (cond (passedOver k r p j) nothing (cond (outranks c (phaseOf k r .choice)) x nothing))
-spoken-delivery k r a p j c x nu na say =
-    cond-elim (Spoken r a) (passedOver k r p j) (λ _. says-nothing)
-    (λ t. cond-elim (Spoken r a) (outranks c (phaseOf k r .choice))
+allowed-delivery : (k : Kind) (r : HeadRecord) (a : Action) (p j c : ℕ) (x : Sending) → number a ≡ delivery k → named (deliveryIn a .frame) ≡ SomeNumber c
+    → (Naming k r a c → Allowed r a x) → Allowed r a (cond (passedOver k r p j) nothing (cond (outranks c (phaseOf k r .choice)) x nothing))
+allowed-delivery k r a p j c x nu na say =
+    cond-elim (Allowed r a) (passedOver k r p j) (λ _. sends-nothing)
+    (λ t. cond-elim (Allowed r a) (outranks c (phaseOf k r .choice))
     (λ u. let unclosed = or-left (phaseOf k r .closed) _ t in
-    say (record { is-open = unclosed; stays-open = prepared-closed k r a ∙ rw (nu, no-close k, unclosed) refl; higher = u; why = told nu na })) (λ _. says-nothing))
+    say (record { is-open = unclosed; stays-open = prepared-closed k r a ∙ rw (nu, no-close k, unclosed) refl; higher = u; why = told nu na })) (λ _. sends-nothing))
 
-pub spoken : (r : HeadRecord) (a : Action) → isClosed r a ≡ false → Spoken r a (speechOf r a)
+pub allowed : (r : HeadRecord) (a : Action) → isClosed r a ≡ false → Allowed r a (sendingOf r a)
 unfolding isClosed mayAdjust
-spoken r Look e = says-nothing
-spoken r StartSent e = says-start refl
-spoken r (StartDelivered p) e =
-    cond-elim (Spoken r (StartDelivered p)) (r .adjust .closed) (λ _. says-nothing)
-    (λ _. spoken-lead r (withSenders r (set (r .senders) p (withStart (keptOf r p) (SomeReading (r .last))))) (StartDelivered p) refl refl refl refl)
-spoken r StartConfirmed e = says-nothing
-spoken r VoteTurn e = spoken-lead r (prepared r VoteTurn) VoteTurn refl refl refl refl
-spoken r (VoteDelivered p k c x) e = spoken-delivery votes r (VoteDelivered p k c x) p k c (voting c) refl refl says-vote
-spoken r VoteClose e = says-nothing
-spoken r AdjustTurn e =
-    cond-elim (Spoken r AdjustTurn) (mayAdjust (prepared r AdjustTurn))
+allowed r Look e = sends-nothing
+allowed r StartSent e = sends-start refl
+allowed r (StartDelivered p) e =
+    cond-elim (Allowed r (StartDelivered p)) (r .adjust .closed) (λ _. sends-nothing)
+    (λ _. allowed-lead r (withSenders r (set (r .senders) p (withStart (keptOf r p) (SomeReading (r .last))))) (StartDelivered p) refl refl refl refl)
+allowed r StartConfirmed e = sends-nothing
+allowed r VoteTurn e = allowed-lead r (prepared r VoteTurn) VoteTurn refl refl refl refl
+allowed r (VoteDelivered p k c x) e = allowed-delivery votes r (VoteDelivered p k c x) p k c (voting c) refl refl sends-vote
+allowed r VoteClose e = sends-nothing
+allowed r AdjustTurn e =
+    cond-elim (Allowed r AdjustTurn) (mayAdjust (prepared r AdjustTurn))
     (λ t. let none : r .adjust .choice ≡ NoNumber = no-number _ (not-true (and-left (not (isNumber (r .adjust .choice))) _ (and-right (isNumber (r .vote .choice)) _ t))) in
     let unclosed = or-right (r .adjust .turn) _ (or-right (not (r .vote .closed)) _ e) in
-    says-adjust (record { is-open = unclosed; stays-open = unclosed; higher = rw none refl; why = itself refl none refl }) (computed refl refl))
-    (λ _. says-nothing)
-spoken r (AdjustDelivered p k c x) e = spoken-delivery adjusts r (AdjustDelivered p k c x) p k c (adjusting c x) refl refl (λ y. says-adjust y (passed-on refl refl))
-spoken r AdjustClose e = says-nothing
+    sends-adjust (record { is-open = unclosed; stays-open = unclosed; higher = rw none refl; why = itself refl none refl }) (computed refl refl))
+    (λ _. sends-nothing)
+allowed r (AdjustDelivered p k c x) e = allowed-delivery adjusts r (AdjustDelivered p k c x) p k c (adjusting c x) refl refl (λ y. sends-adjust y (passed-on refl refl))
+allowed r AdjustClose e = sends-nothing
 
 pub none-is-some {ℓ} : {A : Type ℓ} {c : ℕ} → NoNumber ≡ SomeNumber c → A
 none-is-some e = absurd (let z : _≡_ {A = ℕ} 0 1 = cc in omega arith)
@@ -344,16 +344,16 @@ none-is-some e = absurd (let z : _≡_ {A = ℕ} 0 1 = cc in omega arith)
 pub same-number : {c v : ℕ} → SomeNumber c ≡ SomeNumber v → c ≡ v
 same-number e = cc
 
--- who speaks in a phase has a reason
-pub speaks : (k : Kind) {r : HeadRecord} {a : Action} {x : Speech} {c : ℕ} → Spoken r a x → said k x ≡ SomeNumber c → Speaks k r a c
-speaks votes says-nothing e = none-is-some e
-speaks votes (says-start s) e = none-is-some e
-speaks votes {r} {a} (says-vote s) e = subst (Speaks votes r a) (same-number e) s
-speaks votes (says-adjust s t) e = none-is-some e
-speaks adjusts says-nothing e = none-is-some e
-speaks adjusts (says-start s) e = none-is-some e
-speaks adjusts (says-vote s) e = none-is-some e
-speaks adjusts {r} {a} (says-adjust s t) e = subst (Speaks adjusts r a) (same-number e) s
+-- a head that names one in a phase has a reason
+pub naming : (k : Kind) {r : HeadRecord} {a : Action} {x : Sending} {c : ℕ} → Allowed r a x → namedIn k x ≡ SomeNumber c → Naming k r a c
+naming votes sends-nothing e = none-is-some e
+naming votes (sends-start s) e = none-is-some e
+naming votes {r} {a} (sends-vote s) e = subst (Naming votes r a) (same-number e) s
+naming votes (sends-adjust s t) e = none-is-some e
+naming adjusts sends-nothing e = none-is-some e
+naming adjusts (sends-start s) e = none-is-some e
+naming adjusts (sends-vote s) e = none-is-some e
+naming adjusts {r} {a} (sends-adjust s t) e = subst (Naming adjusts r a) (same-number e) s
 
 -- WHAT A RECORD KEEPS
 
@@ -366,14 +366,14 @@ set-keeps g (x ∷ l) zero (suc q) k e = refl
 set-keeps g (x ∷ l) (suc p) zero k e = refl
 set-keeps g (x ∷ l) (suc p) (suc q) k e = set-keeps g l p q k e
 
--- a speech changes no start reading and no serial taken: nothing of a sender but the head's own vote reading
-pub utter-keeps : {X : Type 0} (g : Sender → X) → ((k : Sender) (x : OptReading) → g (withVoteReading k x) ≡ g k)
-    → (x : Speech) (m : HeadRecord) (q : ℕ) → g (keptOf (utter x m .after) q) ≡ g (keptOf m q)
+-- a sending changes no start reading and no serial taken: nothing of a sender but the head's own vote reading
+pub send-keeps : {X : Type 0} (g : Sender → X) → ((k : Sender) (x : OptReading) → g (withVoteReading k x) ≡ g k)
+    → (x : Sending) (m : HeadRecord) (q : ℕ) → g (keptOf (send x m .after) q) ≡ g (keptOf m q)
 unfolding vote adjust
-utter-keeps g e nothing m q = refl
-utter-keeps g e start m q = refl
-utter-keeps g e (voting c) m q = set-keeps g (m .senders) (m .own) q _ (e _ _)
-utter-keeps g e (adjusting c x) m q = refl
+send-keeps g e nothing m q = refl
+send-keeps g e start m q = refl
+send-keeps g e (voting c) m q = set-keeps g (m .senders) (m .own) q _ (e _ _)
+send-keeps g e (adjusting c x) m q = refl
 
 -- number of heads, own number, last reading, and the marks, in the order of the actions that set them
 abbrev pub marksOf : HeadRecord → List Bool
@@ -386,19 +386,19 @@ pub record Same (r m : HeadRecord) : Type 0 where
   pub last : m .last ≡ r .last
   pub size : length (m .senders) ≡ length (r .senders)
 
-pub utter-same : (x : Speech) (m : HeadRecord) → Same m (utter x m .after)
+pub send-same : (x : Sending) (m : HeadRecord) → Same m (send x m .after)
 unfolding vote adjust
-utter-same nothing m = record { n = refl; f = refl; own = refl; last = refl; size = refl }
-utter-same start m = record { n = refl; f = refl; own = refl; last = refl; size = refl }
-utter-same (voting c) m = record { n = refl; f = refl; own = refl; last = refl; size = length-set (m .senders) (m .own) _ }
-utter-same (adjusting c x) m = record { n = refl; f = refl; own = refl; last = refl; size = refl }
+send-same nothing m = record { n = refl; f = refl; own = refl; last = refl; size = refl }
+send-same start m = record { n = refl; f = refl; own = refl; last = refl; size = refl }
+send-same (voting c) m = record { n = refl; f = refl; own = refl; last = refl; size = length-set (m .senders) (m .own) _ }
+send-same (adjusting c x) m = record { n = refl; f = refl; own = refl; last = refl; size = refl }
 
-pub utter-marks : (x : Speech) (m : HeadRecord) → marksOf (utter x m .after) ≡ marksOf m
+pub send-marks : (x : Sending) (m : HeadRecord) → marksOf (send x m .after) ≡ marksOf m
 unfolding vote adjust
-utter-marks nothing m = refl
-utter-marks start m = refl
-utter-marks (voting c) m = refl
-utter-marks (adjusting c x) m = refl
+send-marks nothing m = refl
+send-marks start m = refl
+send-marks (voting c) m = refl
+send-marks (adjusting c x) m = refl
 
 size-if : (b : Bool) (l : List Sender) (p : ℕ) (k : Sender) → length (cond b l (set l p k)) ≡ length l
 size-if true l p k = refl
@@ -428,15 +428,15 @@ kept-after r p x v b = go (ignored r p x) (eqb p v) refl
     go false false t = getD-set-other (r .senders) p v _ noSender (λ d. eqb-false p v t (sym d))
 
 -- an effect is an accepted answer
-utter-accepted : (x : Speech) (m : HeadRecord) → accepted (utter x m .after) (utter x m .frame) ≡ utter x m
+send-accepted : (x : Sending) (m : HeadRecord) → accepted (send x m .after) (send x m .frame) ≡ send x m
 unfolding vote adjust
-utter-accepted nothing m = refl
-utter-accepted start m = refl
-utter-accepted (voting c) m = refl
-utter-accepted (adjusting c x) m = refl
+send-accepted nothing m = refl
+send-accepted start m = refl
+send-accepted (voting c) m = refl
+send-accepted (adjusting c x) m = refl
 
 pub effect-accepted : (r : HeadRecord) (a : Action) → accepted (effect r a .after) (effect r a .frame) ≡ effect r a
-effect-accepted r a = rw (effect-split r a) (utter-accepted (speechOf r a) (prepared r a))
+effect-accepted r a = rw (effect-split r a) (send-accepted (sendingOf r a) (prepared r a))
 
 -- whether an action is closed does not depend on the last reading
 pub closed-last : (r : HeadRecord) (x : Reading) (a : Action) → isClosed (withLast r x) a ≡ isClosed r a
@@ -476,26 +476,26 @@ ignored-frame adjusts r p Start e = absurd-bool e refl
 ignored-frame adjusts r p (Vote j c x) e = absurd-bool e refl
 ignored-frame adjusts r p (Adjust j c x) e = refl
 
--- a frame that is not passed over and names a higher rank is spoken for
-says-if : (k : Kind) (b o : Bool) (x : Speech) → b ≡ false → o ≡ true → said k (cond b nothing (cond o x nothing)) ≡ said k x
-says-if k b o x t u = rw (t, u) refl
+-- a frame that is not passed over and names a higher rank is followed by one that names the same
+sends-if : (k : Kind) (b o : Bool) (x : Sending) → b ≡ false → o ≡ true → namedIn k (cond b nothing (cond o x nothing)) ≡ namedIn k x
+sends-if k b o x t u = rw (t, u) refl
 
-pub heard-speech : (k : Kind) (r : HeadRecord) (a : Action) (c : ℕ) → number a ≡ delivery k → named (deliveryIn a .frame) ≡ SomeNumber c
-    → passedOver k r (deliveryIn a .sender) (serialOf (deliveryIn a .frame)) ≡ false → outranks c (phaseOf k r .choice) ≡ true → said k (speechOf r a) ≡ SomeNumber c
-heard-speech k r Look c nu na t u = none-is-some na
-heard-speech k r StartSent c nu na t u = none-is-some na
-heard-speech k r (StartDelivered p) c nu na t u = none-is-some na
-heard-speech k r StartConfirmed c nu na t u = none-is-some na
-heard-speech k r VoteTurn c nu na t u = none-is-some na
-heard-speech votes r (VoteDelivered p j w x) c nu na t u =
-    says-if votes (passedOver votes r p j) (outranks w (r .vote .choice)) (voting w) t (rw (same-number na) u) ∙ na
-heard-speech adjusts r (VoteDelivered p j w x) c nu na t u = absurd (omega arith)
-heard-speech k r VoteClose c nu na t u = none-is-some na
-heard-speech k r AdjustTurn c nu na t u = none-is-some na
-heard-speech votes r (AdjustDelivered p j w x) c nu na t u = absurd (omega arith)
-heard-speech adjusts r (AdjustDelivered p j w x) c nu na t u =
-    says-if adjusts (passedOver adjusts r p j) (outranks w (r .adjust .choice)) (adjusting w x) t (rw (same-number na) u) ∙ na
-heard-speech k r AdjustClose c nu na t u = none-is-some na
+pub heard-sending : (k : Kind) (r : HeadRecord) (a : Action) (c : ℕ) → number a ≡ delivery k → named (deliveryIn a .frame) ≡ SomeNumber c
+    → passedOver k r (deliveryIn a .sender) (serialOf (deliveryIn a .frame)) ≡ false → outranks c (phaseOf k r .choice) ≡ true → namedIn k (sendingOf r a) ≡ SomeNumber c
+heard-sending k r Look c nu na t u = none-is-some na
+heard-sending k r StartSent c nu na t u = none-is-some na
+heard-sending k r (StartDelivered p) c nu na t u = none-is-some na
+heard-sending k r StartConfirmed c nu na t u = none-is-some na
+heard-sending k r VoteTurn c nu na t u = none-is-some na
+heard-sending votes r (VoteDelivered p j w x) c nu na t u =
+    sends-if votes (passedOver votes r p j) (outranks w (r .vote .choice)) (voting w) t (rw (same-number na) u) ∙ na
+heard-sending adjusts r (VoteDelivered p j w x) c nu na t u = absurd (omega arith)
+heard-sending k r VoteClose c nu na t u = none-is-some na
+heard-sending k r AdjustTurn c nu na t u = none-is-some na
+heard-sending votes r (AdjustDelivered p j w x) c nu na t u = absurd (omega arith)
+heard-sending adjusts r (AdjustDelivered p j w x) c nu na t u =
+    sends-if adjusts (passedOver adjusts r p j) (outranks w (r .adjust .choice)) (adjusting w x) t (rw (same-number na) u) ∙ na
+heard-sending k r AdjustClose c nu na t u = none-is-some na
 
 -- A HEAD'S OWN VOTE READING
 
@@ -518,21 +518,21 @@ own-kept r (AdjustDelivered p k c x) e = column-kept (λ z. z .vote) r p (Adjust
 own-kept r AdjustClose e = refl
 
 -- only a vote changes it: it becomes the start reading of the candidate
-pub own-unspoken : (x : Speech) (m : HeadRecord) → said votes x ≡ NoNumber → voteOf (utter x m .after) (m .own) ≡ voteOf m (m .own)
+pub own-unsent : (x : Sending) (m : HeadRecord) → namedIn votes x ≡ NoNumber → voteOf (send x m .after) (m .own) ≡ voteOf m (m .own)
 unfolding adjust
-own-unspoken nothing m e = refl
-own-unspoken start m e = refl
-own-unspoken (voting c) m e = none-is-some (sym e)
-own-unspoken (adjusting c x) m e = refl
+own-unsent nothing m e = refl
+own-unsent start m e = refl
+own-unsent (voting c) m e = none-is-some (sym e)
+own-unsent (adjusting c x) m e = refl
 
-pub own-spoken : (x : Speech) (m : HeadRecord) (c : ℕ) → m .own < length (m .senders) → said votes x ≡ SomeNumber c → voteOf (utter x m .after) (m .own) ≡ startOf (utter x m .after) c
+pub own-sent : (x : Sending) (m : HeadRecord) (c : ℕ) → m .own < length (m .senders) → namedIn votes x ≡ SomeNumber c → voteOf (send x m .after) (m .own) ≡ startOf (send x m .after) c
 unfolding vote
-own-spoken nothing m c b e = none-is-some e
-own-spoken start m c b e = none-is-some e
-own-spoken (voting w) m c b e =
+own-sent nothing m c b e = none-is-some e
+own-sent start m c b e = none-is-some e
+own-sent (voting w) m c b e =
     subst (λ (z : ℕ). voteOf (vote w m .after) (m .own) ≡ startOf (vote w m .after) z) (same-number e)
     (ap (λ (z : Sender). z .vote) (getD-set-same (m .senders) (m .own) _ noSender b) ∙ sym (set-keeps (λ z. z .start) (m .senders) (m .own) w _ refl))
-own-spoken (adjusting w x) m c b e = none-is-some e
+own-sent (adjusting w x) m c b e = none-is-some e
 
 -- a start is sent once
 pub start-once : (r : HeadRecord) (a : Action) → number a ≡ 1 → isClosed r a ≡ false → r .started ≡ false

@@ -1,9 +1,9 @@
 -- How many frames a round has: with n heads at most n² + 2n, the count that source 000 keeps, and so at most document
 -- 01's 2n² + n. Source 000 takes a head's first vote to be for itself; the count holds without that.
--- Why: a head sends one start, and in each phase it speaks for falling numbers, never twice for the same. Who is spoken
--- for has spoken for itself; who speaks for itself does so before it speaks for anybody else, so for nobody above it.
--- Hence no two heads speak for each other, and of the n² pairs of speaker and number a phase has at most n(n + 1)/2.
--- Main results, over the phase: `spoke-itself`, `own-first`, `phase-frames`; over a round: `frames-published`,
+-- Why: a head sends one start, and in each phase it names falling numbers, never the same twice. A head that is named has
+-- named itself; a head that names itself does so before it names any other, so it names none above it.
+-- Hence no two heads name each other, and of the n² pairs of sender and number a phase has at most n(n + 1)/2.
+-- Main results, over the phase: `sent-itself`, `own-first`, `phase-frames`; over a round: `frames-published`,
 -- `frames-bound`; of a sheet's words: `sheet-published`, `sheet-frames`.
 use mathlib.Core.Path.{_≡_, refl, sym, _∙_, ap, subst}
 use mathlib.Core.Bool.{Bool, true, false, cond}
@@ -20,9 +20,9 @@ use Rattle.protocol.specs.Record.{fresh}
 use Rattle.protocol.specs.Step.{vote, adjust, isClosed}
 use Rattle.protocol.specs.Run.{Event, History, recordOf, frameSent, isFrame, ran, runSheet}
 use Rattle.protocol.proofs.Tests.{absurd-bool, cases, or-second, eqb-same, count-some, some-count}
-use Rattle.protocol.proofs.Effects.{Kind, votes, adjusts, phaseOf, number, prepared, Speech, utter, Spoken, says-nothing, says-start, says-vote, says-adjust, spoken, none-is-some, same-number, closed-last, start-once}
+use Rattle.protocol.proofs.Effects.{Kind, votes, adjusts, phaseOf, number, prepared, Sending, send, Allowed, sends-nothing, sends-start, sends-vote, sends-adjust, allowed, none-is-some, same-number, closed-last, start-once}
 use Rattle.protocol.proofs.Valid.{baseOf, Taken, Valid, start, more, accepted-sheet, record-at, record-other, by-head, of-effect}
-use Rattle.protocol.proofs.Phases.{names, held, sent, Origin, own, heard, Spoke, Turn, quiet, spoke, turn, names-other, sent-other, outranks-below, frame-new, frame-stays, serial-below, unsent, AtMost, falls}
+use Rattle.protocol.proofs.Phases.{names, held, sent, Origin, own, heard, SendsOne, Turn, sends-none, sends-one, turn, names-other, sent-other, outranks-below, frame-new, frame-stays, serial-below, unsent, AtMost, falls}
 
 -- the number of events at which a frame was sent
 unfoldable pub framesIn : History → ℕ
@@ -80,7 +80,7 @@ pairs-below (suc n) r anti =
     let square : suc n * suc n ≡ n * n + n + suc n = mul-suc (suc n) n ∙ rw (suc-mul n n) refl in
     omega arith
 
--- WHO SPEAKS FOR WHOM
+-- WHO NAMES WHOM
 
 abbrev isFor : ℕ → OptNumber → Bool
 isFor c NoNumber = false
@@ -97,112 +97,112 @@ none-sent adjusts n f q = refl
 
 module _ (g : Setting) (k : Kind) where
   -- a frame of p names c
-  abbrev pub SpokeFor : History → ℕ → ℕ → Type 0
-  SpokeFor s p c = (j : ℕ) × (names g k s p j ≡ SomeNumber c)
+  abbrev pub SentFor : History → ℕ → ℕ → Type 0
+  SentFor s p c = (j : ℕ) × (names g k s p j ≡ SomeNumber c)
 
-  pub spoke-stays : {s : History} {e : Event} → Taken g s e → Valid g s → (p c : ℕ) → SpokeFor s p c → SpokeFor (e ∷ s) p c
-  spoke-stays t v p c x = (x .0, frame-stays g k t v p (x .0) c (x .1))
+  pub sent-stays : {s : History} {e : Event} → Taken g s e → Valid g s → (p c : ℕ) → SentFor s p c → SentFor (e ∷ s) p c
+  sent-stays t v p c x = (x .0, frame-stays g k t v p (x .0) c (x .1))
 
-  spoke-new : {s : History} {e : Event} → Valid g s → (z : Spoke g k s e) → SpokeFor (e ∷ s) (e .entry .head) (z .choice)
-  spoke-new {s} {e} v z = (sent g k s (e .entry .head), z .names-new _ ∙ rw (unsent g k v (e .entry .head), eqb-same (sent g k s (e .entry .head))) refl)
+  sent-new : {s : History} {e : Event} → Valid g s → (z : SendsOne g k s e) → SentFor (e ∷ s) (e .entry .head) (z .choice)
+  sent-new {s} {e} v z = (sent g k s (e .entry .head), z .names-new _ ∙ rw (unsent g k v (e .entry .head), eqb-same (sent g k s (e .entry .head))) refl)
 
-  -- a property of every speech: an event keeps it, and it holds of a speech when it is made
-  every-speech : (P : History → ℕ → ℕ → Type 0)
-      → ((s : History) (e : Event) → Taken g s e → Valid g s → (p c : ℕ) → SpokeFor s p c → P s p c → P (e ∷ s) p c)
-      → ((s : History) (e : Event) → Taken g s e → Valid g s → ((p c : ℕ) → SpokeFor s p c → P s p c) → (z : Spoke g k s e) → P (e ∷ s) (e .entry .head) (z .choice))
-      → {s : History} → Valid g s → (p c : ℕ) → SpokeFor s p c → P s p c
+  -- a property of every sending: an event keeps it, and it holds of a sending when it is made
+  every-sending : (P : History → ℕ → ℕ → Type 0)
+      → ((s : History) (e : Event) → Taken g s e → Valid g s → (p c : ℕ) → SentFor s p c → P s p c → P (e ∷ s) p c)
+      → ((s : History) (e : Event) → Taken g s e → Valid g s → ((p c : ℕ) → SentFor s p c → P s p c) → (z : SendsOne g k s e) → P (e ∷ s) (e .entry .head) (z .choice))
+      → {s : History} → Valid g s → (p c : ℕ) → SentFor s p c → P s p c
   unfolding frameSent
-  every-speech P keep new start p c = λ x. none-is-some (x .1)
-  every-speech P keep new (more {e = e} {s = s} t v) p c =
-      let old : (p c : ℕ) → SpokeFor s p c → P s p c = every-speech P keep new v in
-      by-head (λ p. SpokeFor (e ∷ s) p c → P (e ∷ s) p c) e p
+  every-sending P keep new start p c = λ x. none-is-some (x .1)
+  every-sending P keep new (more {e = e} {s = s} t v) p c =
+      let old : (p c : ℕ) → SentFor s p c → P s p c = every-sending P keep new v in
+      by-head (λ p. SentFor (e ∷ s) p c → P (e ∷ s) p c) e p
       (λ x. frame-new g k (λ j c. P (e ∷ s) (e .entry .head) c) (turn g k t v) (λ j c h. keep s e t v _ c (j, h) (old _ c (j, h))) (new s e t v old) (x .0) c (x .1))
-      (λ d x. let y : SpokeFor s p c = (x .0, sym (names-other g k e s p (x .0) d) ∙ x .1) in keep s e t v p c y (old p c y))
+      (λ d x. let y : SentFor s p c = (x .0, sym (names-other g k e s p (x .0) d) ∙ x .1) in keep s e t v p c y (old p c y))
 
-  -- who spoke for c has a choice, at most c
-  pub spoke-low : {s : History} → Valid g s → (p c : ℕ) → SpokeFor s p c → AtMost g k s p c
-  spoke-low = every-speech (AtMost g k) (λ s e t v p c x a. falls g k t v p c a) (λ s e t v old z. record { choice = z .choice; holds = z .held-new; low = omega arith })
+  -- a head that has named c has a choice, at most c
+  pub sent-at-most : {s : History} → Valid g s → (p c : ℕ) → SentFor s p c → AtMost g k s p c
+  sent-at-most = every-sending (AtMost g k) (λ s e t v p c x a. falls g k t v p c a) (λ s e t v old z. record { choice = z .choice; holds = z .held-new; low = omega arith })
 
-  -- a new speech is for a number not spoken for before
-  speech-new : {s : History} {e : Event} → Valid g s → (z : Spoke g k s e) → SpokeFor s (e .entry .head) (z .choice) → ⊥
-  speech-new v z x = let a = spoke-low v _ _ x in let lt = outranks-below _ _ _ (z .higher) (a .holds) in let le = a .low in omega arith
+  -- a new sending names a number not named before
+  sending-new : {s : History} {e : Event} → Valid g s → (z : SendsOne g k s e) → SentFor s (e .entry .head) (z .choice) → ⊥
+  sending-new v z x = let a = sent-at-most v _ _ x in let lt = outranks-below _ _ _ (z .higher) (a .holds) in let le = a .low in omega arith
 
   -- every speaker is a head
-  pub speaker-below : {s : History} → Valid g s → (p c : ℕ) → SpokeFor s p c → p < g .n
-  speaker-below = every-speech (λ s p c. p < g .n) (λ s e t v p c x lt. lt) (λ s e t v old z. t .head-below)
+  pub sender-below : {s : History} → Valid g s → (p c : ℕ) → SentFor s p c → p < g .n
+  sender-below = every-sending (λ s p c. p < g .n) (λ s e t v p c x lt. lt) (λ s e t v old z. t .head-below)
 
-  -- who is spoken for has spoken for itself
-  pub spoke-itself : {s : History} → Valid g s → (p c : ℕ) → SpokeFor s p c → SpokeFor s c c
-  spoke-itself = every-speech (λ s p c. SpokeFor s c c) (λ s e t v p c x y. spoke-stays t v c c y) (λ s e t v old z. go t v old z (z .origin))
+  -- a head that is named has named itself
+  pub sent-itself : {s : History} → Valid g s → (p c : ℕ) → SentFor s p c → SentFor s c c
+  sent-itself = every-sending (λ s p c. SentFor s c c) (λ s e t v p c x y. sent-stays t v c c y) (λ s e t v old z. go t v old z (z .origin))
     where
-      go : {s : History} {e : Event} → Taken g s e → Valid g s → ((p c : ℕ) → SpokeFor s p c → SpokeFor s c c) → (z : Spoke g k s e) → Origin g k s e (z .choice)
-          → SpokeFor (e ∷ s) (z .choice) (z .choice)
-      go {s} {e} t v old z (own o none tu) = subst (λ (q : ℕ). SpokeFor (e ∷ s) q (z .choice)) (sym o) (spoke-new v z)
-      go {s} {e} t v old z (heard a na) = spoke-stays t v _ _ (old (e .entry .sender) (z .choice) (e .entry .serial, na))
+      go : {s : History} {e : Event} → Taken g s e → Valid g s → ((p c : ℕ) → SentFor s p c → SentFor s c c) → (z : SendsOne g k s e) → Origin g k s e (z .choice)
+          → SentFor (e ∷ s) (z .choice) (z .choice)
+      go {s} {e} t v old z (own o none tu) = subst (λ (q : ℕ). SentFor (e ∷ s) q (z .choice)) (sym o) (sent-new v z)
+      go {s} {e} t v old z (heard a na) = sent-stays t v _ _ (old (e .entry .sender) (z .choice) (e .entry .serial, na))
 
-  -- who has a choice does not begin to speak for itself
-  itself-before : {s : History} {e : Event} → Taken g s e → Valid g s → (p w : ℕ) → held g k s p ≡ SomeNumber w → SpokeFor (e ∷ s) p p → SpokeFor s p p
+  -- a head that has a choice does not begin to name itself
+  itself-before : {s : History} {e : Event} → Taken g s e → Valid g s → (p w : ℕ) → held g k s p ≡ SomeNumber w → SentFor (e ∷ s) p p → SentFor s p p
   itself-before {s} {e} t v p w =
-      by-head (λ p. held g k s p ≡ SomeNumber w → SpokeFor (e ∷ s) p p → SpokeFor s p p) e p
-      (λ h x. frame-new g k (λ j c. c ≡ e .entry .head → SpokeFor s (e .entry .head) (e .entry .head)) (turn g k t v)
+      by-head (λ p. held g k s p ≡ SomeNumber w → SentFor (e ∷ s) p p → SentFor s p p) e p
+      (λ h x. frame-new g k (λ j c. c ≡ e .entry .head → SentFor s (e .entry .head) (e .entry .head)) (turn g k t v)
       (λ j c na eq. (j, na ∙ ap (λ (q : ℕ). SomeNumber q) eq)) (λ z eq. go h (z .origin) eq) (x .0) (e .entry .head) (x .1) refl)
       (λ d h x. (x .0, sym (names-other g k e s p (x .0) d) ∙ x .1))
     where
-      go : {c : ℕ} → held g k s (e .entry .head) ≡ SomeNumber w → Origin g k s e c → c ≡ e .entry .head → SpokeFor s (e .entry .head) (e .entry .head)
+      go : {c : ℕ} → held g k s (e .entry .head) ≡ SomeNumber w → Origin g k s e c → c ≡ e .entry .head → SentFor s (e .entry .head) (e .entry .head)
       go h (own o none tu) eq = none-is-some (sym none ∙ h)
-      go h (heard a na) eq = spoke-itself v (e .entry .sender) (e .entry .head) (e .entry .serial, na ∙ ap (λ (q : ℕ). SomeNumber q) eq)
+      go h (heard a na) eq = sent-itself v (e .entry .sender) (e .entry .head) (e .entry .serial, na ∙ ap (λ (q : ℕ). SomeNumber q) eq)
 
-  -- who spoke for itself spoke for nobody above it
-  pub own-first : {s : History} → Valid g s → (p c : ℕ) → SpokeFor s p c → SpokeFor s p p → c ≤ p
+  -- a head that has named itself has named none above it
+  pub own-first : {s : History} → Valid g s → (p c : ℕ) → SentFor s p c → SentFor s p p → c ≤ p
   own-first =
-      every-speech (λ s p c. SpokeFor s p p → c ≤ p) (λ s e t v p c x le y. let a = spoke-low v p c x in le (itself-before t v p (a .choice) (a .holds) y))
-      (λ s e t v old z y. let a = spoke-low (more t v) _ _ y in let eq = same-number (sym (a .holds) ∙ z .held-new) in let le = a .low in omega arith)
+      every-sending (λ s p c. SentFor s p p → c ≤ p) (λ s e t v p c x le y. let a = sent-at-most v p c x in le (itself-before t v p (a .choice) (a .holds) y))
+      (λ s e t v old z y. let a = sent-at-most (more t v) _ _ y in let eq = same-number (sym (a .holds) ∙ z .held-new) in let le = a .low in omega arith)
 
-  -- no two heads speak for each other
-  pub not-both : {s : History} → Valid g s → (p c : ℕ) → SpokeFor s p c → SpokeFor s c p → p ≡ c
-  not-both v p c x y = let a = own-first v p c x (spoke-itself v c p y) in let b = own-first v c p y (spoke-itself v p c x) in omega arith
+  -- no two heads name each other
+  pub not-both : {s : History} → Valid g s → (p c : ℕ) → SentFor s p c → SentFor s c p → p ≡ c
+  not-both v p c x y = let a = own-first v p c x (sent-itself v c p y) in let b = own-first v c p y (sent-itself v p c x) in omega arith
 
   -- FRAMES OF A PHASE
 
-  -- SpokeFor as a test, and how many numbers p spoke for
-  abbrev speaksFor : History → ℕ → ℕ → Bool
-  speaksFor s p c = ltb 0 (countBelow (sent g k s p) (λ j. isFor c (names g k s p j)))
+  -- SentFor as a test, and how many numbers p has named
+  abbrev isSentFor : History → ℕ → ℕ → Bool
+  isSentFor s p c = ltb 0 (countBelow (sent g k s p) (λ j. isFor c (names g k s p j)))
 
-  abbrev spokenCount : History → ℕ → ℕ
-  spokenCount s p = sumBelow (g .n) (λ c. bit (speaksFor s p c))
+  abbrev sentForCount : History → ℕ → ℕ
+  sentForCount s p = sumBelow (g .n) (λ c. bit (isSentFor s p c))
 
-  test-spoke : (s : History) (p c : ℕ) → speaksFor s p c ≡ true → SpokeFor s p c
-  test-spoke s p c e = let x = count-some (sent g k s p) (λ j. isFor c (names g k s p j)) (ltb-true 0 _ e) in (x .0, for-it c _ (x .2))
+  test-sent : (s : History) (p c : ℕ) → isSentFor s p c ≡ true → SentFor s p c
+  test-sent s p c e = let x = count-some (sent g k s p) (λ j. isFor c (names g k s p j)) (ltb-true 0 _ e) in (x .0, for-it c _ (x .2))
 
-  spoke-test : {s : History} → Valid g s → (p c : ℕ) → SpokeFor s p c → speaksFor s p c ≡ true
-  spoke-test {s} v p c x =
+  sent-test : {s : History} → Valid g s → (p c : ℕ) → SentFor s p c → isSentFor s p c ≡ true
+  sent-test {s} v p c x =
       lt-ltb 0 _ (some-count (sent g k s p) (λ j. isFor c (names g k s p j)) (x .0) (serial-below g k v p (x .0) c (x .1)) (rw (x .1) (eqb-same c)))
 
   -- each frame of p is for another number
-  sent-low : {s : History} → Valid g s → (p : ℕ) → sent g k s p ≤ spokenCount s p
+  sent-low : {s : History} → Valid g s → (p : ℕ) → sent g k s p ≤ sentForCount s p
   unfolding recordOf
   sent-low start p = let z = none-sent k (g .n) (g .f) p in omega arith
   sent-low (more {e = e} {s = s} t v) p =
-      by-head (λ p. sent g k (e ∷ s) p ≤ spokenCount (e ∷ s) p) e p (go (turn g k t v) (sent-low v (e .entry .head)))
+      by-head (λ p. sent g k (e ∷ s) p ≤ sentForCount (e ∷ s) p) e p (go (turn g k t v) (sent-low v (e .entry .head)))
       (λ d. let eq = sent-other g k e s p d in let a = sent-low v p in let b = sum-mono (g .n) _ _ (grows p) in omega arith)
     where
-      grows : (p c : ℕ) → bit (speaksFor s p c) ≤ bit (speaksFor (e ∷ s) p c)
-      grows p c = bit-mono (speaksFor s p c) (speaksFor (e ∷ s) p c) (λ x. spoke-test (more t v) p c (spoke-stays t v p c (test-spoke s p c x)))
+      grows : (p c : ℕ) → bit (isSentFor s p c) ≤ bit (isSentFor (e ∷ s) p c)
+      grows p c = bit-mono (isSentFor s p c) (isSentFor (e ∷ s) p c) (λ x. sent-test (more t v) p c (sent-stays t v p c (test-sent s p c x)))
 
-      go : Turn g k s e → sent g k s (e .entry .head) ≤ spokenCount s (e .entry .head) → sent g k (e ∷ s) (e .entry .head) ≤ spokenCount (e ∷ s) (e .entry .head)
-      go (quiet z) le = let eq = z .sent-same in let b = sum-mono (g .n) _ _ (grows (e .entry .head)) in omega arith
-      go (spoke z) le =
-          let c = z .choice in let x = spoke-new v z in let eq = z .sent-new in
-          let new : bit (speaksFor s (e .entry .head) c) + 1 ≤ bit (speaksFor (e ∷ s) (e .entry .head) c) =
-          rw (spoke-test (more t v) _ c x) (bits-apart (speaksFor s (e .entry .head) c) true (λ y _. speech-new v z (test-spoke s _ c y))) in
-          let b = sum-grows (g .n) _ _ c 1 (speaker-below (more t v) c c (spoke-itself (more t v) _ c x)) (grows (e .entry .head)) new in
+      go : Turn g k s e → sent g k s (e .entry .head) ≤ sentForCount s (e .entry .head) → sent g k (e ∷ s) (e .entry .head) ≤ sentForCount (e ∷ s) (e .entry .head)
+      go (sends-none z) le = let eq = z .sent-same in let b = sum-mono (g .n) _ _ (grows (e .entry .head)) in omega arith
+      go (sends-one z) le =
+          let c = z .choice in let x = sent-new v z in let eq = z .sent-new in
+          let new : bit (isSentFor s (e .entry .head) c) + 1 ≤ bit (isSentFor (e ∷ s) (e .entry .head) c) =
+          rw (sent-test (more t v) _ c x) (bits-apart (isSentFor s (e .entry .head) c) true (λ y _. sending-new v z (test-sent s _ c y))) in
+          let b = sum-grows (g .n) _ _ c 1 (sender-below (more t v) c c (sent-itself (more t v) _ c x)) (grows (e .entry .head)) new in
           omega arith
 
   -- at most n(n + 1)/2 frames in a phase
   pub phase-frames : {s : History} → Valid g s → 2 * sumBelow (g .n) (sent g k s) ≤ g .n * g .n + g .n
   phase-frames {s} v =
-      let a = sum-mono (g .n) (sent g k s) (spokenCount s) (sent-low v) in
-      let b = pairs-below (g .n) (speaksFor s) (λ p c x y. not-both v p c (test-spoke s p c x) (test-spoke s c p y)) in
+      let a = sum-mono (g .n) (sent g k s) (sentForCount s) (sent-low v) in
+      let b = pairs-below (g .n) (isSentFor s) (λ p c x y. not-both v p c (test-sent s p c x) (test-sent s c p y)) in
       omega arith
 
 -- FRAMES OF A ROUND
@@ -215,13 +215,13 @@ started-stays : (r : HeadRecord) (a : Action) → bit (r .started) ≤ bit (prep
 started-stays r a = bit-mono (r .started) (prepared r a .started) (or-second (eqb (number a) 1) (r .started))
 
 -- a step that sends a frame adds one to them
-frames-after : (r : HeadRecord) (a : Action) → isClosed r a ≡ false → {x : Speech} → Spoken r a x
-    → framesOf r + bit (isFrame (utter x (prepared r a) .frame)) ≤ framesOf (utter x (prepared r a) .after)
+frames-after : (r : HeadRecord) (a : Action) → isClosed r a ≡ false → {x : Sending} → Allowed r a x
+    → framesOf r + bit (isFrame (send x (prepared r a) .frame)) ≤ framesOf (send x (prepared r a) .after)
 unfolding vote adjust
-frames-after r a e says-nothing = let m = started-stays r a in omega arith
-frames-after r a e (says-start nu) = rw (start-once r a nu e, nu) (omega arith)
-frames-after r a e (says-vote y) = let m = started-stays r a in omega arith
-frames-after r a e (says-adjust y z) = let m = started-stays r a in omega arith
+frames-after r a e sends-nothing = let m = started-stays r a in omega arith
+frames-after r a e (sends-start nu) = rw (start-once r a nu e, nu) (omega arith)
+frames-after r a e (sends-vote y) = let m = started-stays r a in omega arith
+frames-after r a e (sends-adjust y z) = let m = started-stays r a in omega arith
 
 module _ (g : Setting) where
   frames-sum : {h : History} → Valid g h → framesIn h ≤ sumBelow (g .n) (λ p. framesOf (recordOf g h p))
@@ -236,7 +236,7 @@ module _ (g : Setting) where
       here =
           let taken : isClosed (baseOf g s e) (t .action) ≡ false = closed-last _ _ (t .action) ∙ t .is-open in
           rw (record-at g e s) (of-effect g (λ y. framesOf (recordOf g s (e .entry .head)) + bit (isFrame (y .frame)) ≤ framesOf (y .after)) t
-          (frames-after (baseOf g s e) (t .action) taken (spoken (baseOf g s e) (t .action) taken)))
+          (frames-after (baseOf g s e) (t .action) taken (allowed (baseOf g s e) (t .action) taken)))
 
       grows : (q : ℕ) → framesOf (recordOf g s q) ≤ framesOf (recordOf g (e ∷ s) q)
       grows q = by-head (λ q. framesOf (recordOf g s q) ≤ framesOf (recordOf g (e ∷ s) q)) e q (let a = here in omega arith) (λ d. rw (record-other g e s q d) (omega arith))

@@ -24,7 +24,7 @@ use Rattle.protocol.specs.Results.{ifAdopted, outcomeWord, adjustmentWor
 use Rattle.protocol.specs.Premises.{isSteady, premise2}
 use Rattle.protocol.proofs.Tests.{absurd-bool, cond-elim, not-false, and-left, and-right, or-left, or-right, or-first, or-second, implied, eqb-same, all-in}
 use Rattle.protocol.proofs.Moments.{Earlier, earlier-in, each-at}
-use Rattle.protocol.proofs.Effects.{prepared, speechOf, effect-split, utter-same, set-keeps, effect-accepted}
+use Rattle.protocol.proofs.Effects.{prepared, sendingOf, effect-split, send-same, set-keeps, effect-accepted}
 use Rattle.protocol.proofs.Signed.{difference-of, difference-sub, difference-abs}
 
 -- serial k is above the last one taken, if any was
@@ -235,7 +235,7 @@ pub record Answers (r : HeadRecord) (x : Reading) (t : Stepped) : Type 0 where
   pub refused-unchanged : (c : Cause) → t .verdict ≡ Refused c → t ≡ refused r c
 
 effect-keeps-last : (r : HeadRecord) (a : Action) → effect r a .after .last ≡ r .last
-effect-keeps-last r a = ap (λ (t : Stepped). t .after .last) (effect-split r a) ∙ utter-same (speechOf r a) (prepared r a) .last
+effect-keeps-last r a = ap (λ (t : Stepped). t .after .last) (effect-split r a) ∙ send-same (sendingOf r a) (prepared r a) .last
 
 answers-refused : (r : HeadRecord) (x : Reading) (c : Cause) → Answers r x (refused r c)
 answers-refused r x c =

@@ -1,4 +1,4 @@
--- One phase of a round, votes or adjusts: what follows from how a step speaks and what it takes of a delivered frame.
+-- One phase of a round, votes or adjusts: what follows from what a step sends and what it takes of a delivered frame.
 -- A head's frames have the serials 0, 1, 2 .. and its choice only falls, so the last serial taken from a sender binds
 -- the receiver: its choice is at most what that frame named. Two heads that took each other's last frame therefore agree.
 -- Main results, over the phase: `frame-stays`, `last-frame`, `delivered-choice`, `agree`.
@@ -20,7 +20,7 @@ use Rattle.protocol.specs.Premises.{takes, receives, received}
 use Rattle.protocol.specs.Premises as Premises
 use Rattle.protocol.proofs.Tests.{absurd-bool, and-left, and-right, and-both, or-first, or-right, or-cases, not-true, not-false, eqb-same}
 use Rattle.protocol.proofs.Moments.{Earlier, now, later, any-grows, find}
-use Rattle.protocol.proofs.Effects.{Kind, votes, adjusts, phaseOf, takenOf, delivery, closing, deliveryIn, deliveredBy, serialOf, named, namedBy, taken, passedOver, ignored, Delivery, prepared, Speech, speechOf, said, chosenBy, saidUnder, prepared-choice, prepared-sent, phase-last, chosen-turn, chosen-closed, phase-after, named-after, spoken, speaks, Why, itself, told, none-is-some, same-number, closed-last, taken-after, ignored-frame, heard-speech}
+use Rattle.protocol.proofs.Effects.{Kind, votes, adjusts, phaseOf, takenOf, delivery, closing, deliveryIn, deliveredBy, serialOf, named, namedBy, taken, passedOver, ignored, Delivery, prepared, Sending, sendingOf, namedIn, chosenBy, namedUnder, prepared-choice, prepared-sent, phase-last, chosen-turn, chosen-closed, phase-after, named-after, allowed, naming, Why, itself, told, none-is-some, same-number, closed-last, taken-after, ignored-frame, heard-sending}
 use Rattle.protocol.proofs.Valid.{baseOf, Taken, Valid, start, more, frame-fits, record-at, record-other, by-head, of-effect, fixed, keptNext, kept-at, closed-took}
 
 -- the first of two that is there
@@ -131,18 +131,18 @@ module _ (g : Setting) (k : Kind) where
   pub sent-other : (e : Event) (s : History) (q : ℕ) → eqb (e .entry .head) q ≡ false → sent (e ∷ s) q ≡ sent s q
   sent-other e s q d = ap (λ (r : HeadRecord). phaseOf k r .sent) (record-other g e s q d)
 
-  -- whom a head speaks for: itself, if it has no choice, or one whom the frame that it is delivered names
+  -- whom a head names: itself, if it has no choice, or one whom the frame that it is delivered names
   pub data Origin (s : History) (e : Event) (c : ℕ) : Type 0 where
     own : c ≡ e .entry .head → held s (e .entry .head) ≡ NoNumber → phaseOf k (recordOf g (e ∷ s) (e .entry .head)) .turn ≡ true → Origin s e c
     heard : e .entry .action ≡ delivery k → names s (e .entry .sender) (e .entry .serial) ≡ SomeNumber c → Origin s e c
 
-  -- what an event does to its head's choice and frames: nothing, or the head speaks
-  pub record Quiet (s : History) (e : Event) : Type 0 where
+  -- what an event does to its head's choice and frames: nothing, or the head sends one that names a choice
+  pub record SendsNone (s : History) (e : Event) : Type 0 where
     pub held-same : held (e ∷ s) (e .entry .head) ≡ held s (e .entry .head)
     pub sent-same : sent (e ∷ s) (e .entry .head) ≡ sent s (e .entry .head)
     pub names-same : (j : ℕ) → names (e ∷ s) (e .entry .head) j ≡ names s (e .entry .head) j
 
-  pub record Spoke (s : History) (e : Event) : Type 0 where
+  pub record SendsOne (s : History) (e : Event) : Type 0 where
     pub choice : ℕ
     pub was-open : isOver s (e .entry .head) ≡ false
     pub stays-open : isOver (e ∷ s) (e .entry .head) ≡ false
@@ -153,19 +153,19 @@ module _ (g : Setting) (k : Kind) where
     pub names-new : (j : ℕ) → names (e ∷ s) (e .entry .head) j ≡ orNumber (names s (e .entry .head) j) (cond (eqb (sent s (e .entry .head)) j) (SomeNumber choice) NoNumber)
 
   pub data Turn (s : History) (e : Event) : Type 0 where
-    quiet : Quiet s e → Turn s e
-    spoke : Spoke s e → Turn s e
+    sends-none : SendsNone s e → Turn s e
+    sends-one : SendsOne s e → Turn s e
 
-  -- the event's speech, and the record that its step prepared
-  abbrev pub speechAt : {s : History} {e : Event} → Taken g s e → Speech
-  speechAt {s} {e} t = speechOf (baseOf g s e) (t .action)
+  -- the event's sending, and the record that its step prepared
+  abbrev pub sendingAt : {s : History} {e : Event} → Taken g s e → Sending
+  sendingAt {s} {e} t = sendingOf (baseOf g s e) (t .action)
 
   abbrev pub preparedAt : {s : History} {e : Event} → Taken g s e → HeadRecord
   preparedAt {s} {e} t = prepared (baseOf g s e) (t .action)
 
-  pub phase-at : {s : History} {e : Event} (t : Taken g s e) → phaseOf k (recordOf g (e ∷ s) (e .entry .head)) ≡ chosenBy (said k (speechAt t)) (phaseOf k (preparedAt t))
+  pub phase-at : {s : History} {e : Event} (t : Taken g s e) → phaseOf k (recordOf g (e ∷ s) (e .entry .head)) ≡ chosenBy (namedIn k (sendingAt t)) (phaseOf k (preparedAt t))
   phase-at {s} {e} t =
-      rw (record-at g e s) (of-effect g (λ y. phaseOf k (y .after) ≡ chosenBy (said k (speechAt t)) (phaseOf k (preparedAt t))) t (phase-after k (speechAt t) (preparedAt t)))
+      rw (record-at g e s) (of-effect g (λ y. phaseOf k (y .after) ≡ chosenBy (namedIn k (sendingAt t)) (phaseOf k (preparedAt t))) t (phase-after k (sendingAt t) (preparedAt t)))
 
   pub choice-at : {s : History} {e : Event} (t : Taken g s e) → phaseOf k (preparedAt t) .choice ≡ held s (e .entry .head)
   choice-at {s} {e} t = prepared-choice k (baseOf g s e) (t .action) ∙ ap (λ (p : Phase). p .choice) (phase-last k _ _)
@@ -174,36 +174,36 @@ module _ (g : Setting) (k : Kind) where
   sent-at {s} {e} t = prepared-sent k (baseOf g s e) (t .action) ∙ ap (λ (p : Phase). p .sent) (phase-last k _ _)
 
   names-at : {s : History} {e : Event} (t : Taken g s e) (j : ℕ)
-      → names (e ∷ s) (e .entry .head) j ≡ orNumber (names s (e .entry .head) j) (saidUnder (said k (speechAt t)) (sent s (e .entry .head)) j)
+      → names (e ∷ s) (e .entry .head) j ≡ orNumber (names s (e .entry .head) j) (namedUnder (namedIn k (sendingAt t)) (sent s (e .entry .head)) j)
   names-at {s} {e} t j =
       names-step e s (e .entry .head) j ∙ rw (eqb-same (e .entry .head)) (ap (λ (m : OptNumber). orNumber (names s (e .entry .head) j) m)
-      (of-effect g (λ y. namedBy k j (y .frame) ≡ saidUnder (said k (speechAt t)) (sent s (e .entry .head)) j) t
-      (named-after k (speechAt t) (preparedAt t) j ∙ ap (λ (i : ℕ). saidUnder (said k (speechAt t)) i j) (sent-at t))))
+      (of-effect g (λ y. namedBy k j (y .frame) ≡ namedUnder (namedIn k (sendingAt t)) (sent s (e .entry .head)) j) t
+      (named-after k (sendingAt t) (preparedAt t) j ∙ ap (λ (i : ℕ). namedUnder (namedIn k (sendingAt t)) i j) (sent-at t))))
 
   origin-at : {s : History} {e : Event} (t : Taken g s e) → Valid g s → (c : ℕ) → Why k (baseOf g s e) (t .action) c → Origin s e c
   origin-at {s} {e} t v c (itself o none tu) =
       own (o ∙ fixed g v (e .entry .head) .own-is) (ap (λ (p : Phase). p .choice) (sym (phase-last k _ _)) ∙ none)
-      (ap (λ (p : Phase). p .turn) (phase-at t) ∙ chosen-turn (said k (speechAt t)) _ ∙ tu)
+      (ap (λ (p : Phase). p .turn) (phase-at t) ∙ chosen-turn (namedIn k (sendingAt t)) _ ∙ tu)
   origin-at {s} {e} t v c (told nu na) =
       let is : e .entry .action ≡ delivery k = sym (t .asked .number-is) ∙ nu in
       heard is (subst (λ (a : ℕ). named (frameSent s a (e .entry .sender) (e .entry .serial)) ≡ SomeNumber c) is
       (ap (λ (d : Delivery). named (d .frame)) (sym (t .asked .delivery-is)) ∙ na))
 
   pub turn : {s : History} {e : Event} → Taken g s e → Valid g s → Turn s e
-  turn {s} {e} t v = go (said k (speechAt t)) refl
+  turn {s} {e} t v = go (namedIn k (sendingAt t)) refl
     where
-      go : (m : OptNumber) → said k (speechAt t) ≡ m → Turn s e
-      go NoNumber u = quiet (record {
+      go : (m : OptNumber) → namedIn k (sendingAt t) ≡ m → Turn s e
+      go NoNumber u = sends-none (record {
         held-same = ap (λ (p : Phase). p .choice) (phase-at t) ∙ rw u (choice-at t);
         sent-same = ap (λ (p : Phase). p .sent) (phase-at t) ∙ rw u (sent-at t);
         names-same = λ j. names-at t j ∙ rw u (or-none (names s (e .entry .head) j));
       })
       go (SomeNumber c) u =
-          let w = speaks k (spoken (baseOf g s e) (t .action) (closed-last _ _ (t .action) ∙ t .is-open)) u in
-          spoke (record {
+          let w = naming k (allowed (baseOf g s e) (t .action) (closed-last _ _ (t .action) ∙ t .is-open)) u in
+          sends-one (record {
             choice = c;
             was-open = ap (λ (p : Phase). p .closed) (sym (phase-last k _ _)) ∙ w .is-open;
-            stays-open = ap (λ (p : Phase). p .closed) (phase-at t) ∙ chosen-closed (said k (speechAt t)) _ ∙ w .stays-open;
+            stays-open = ap (λ (p : Phase). p .closed) (phase-at t) ∙ chosen-closed (namedIn k (sendingAt t)) _ ∙ w .stays-open;
             higher = rw (phase-last k (recordOf g s (e .entry .head)) (e .entry .reading)) at (w .higher);
             origin = origin-at t v c (w .why);
             held-new = ap (λ (p : Phase). p .choice) (phase-at t) ∙ rw u refl;
@@ -290,16 +290,16 @@ module _ (g : Setting) (k : Kind) where
 
           go : (o : Bool) → outranks c (phaseOf k r .choice) ≡ o → (w : ℕ) × (held (e ∷ s) (e .entry .head) ≡ SomeNumber w) × (w ≤ c)
           go true o =
-              let said-it = heard-speech k r (t .action) c (t .asked .number-is ∙ a) in-action not-passed o in
-              (c, ap (λ (z : Phase). z .choice) (phase-at t) ∙ rw said-it refl, omega arith)
+              let named-it = heard-sending k r (t .action) c (t .asked .number-is ∙ a) in-action not-passed o in
+              (c, ap (λ (z : Phase). z .choice) (phase-at t) ∙ rw named-it refl, omega arith)
           go false o =
               let w = not-outranked c (phaseOf k r .choice) o in
               let was : held s (e .entry .head) ≡ SomeNumber (w .0) = ap (λ (z : Phase). z .choice) (sym (phase-last k _ _)) ∙ w .1 in
               still (w .0) was (w .2) (turn t v)
             where
               still : (w : ℕ) → held s (e .entry .head) ≡ SomeNumber w → w ≤ c → Turn s e → (w : ℕ) × (held (e ∷ s) (e .entry .head) ≡ SomeNumber w) × (w ≤ c)
-              still w was le (quiet z) = (w, z .held-same ∙ was, le)
-              still w was le (spoke z) = (z .choice, z .held-new, (let lt = outranks-below _ _ _ (z .higher) was in omega arith))
+              still w was le (sends-none z) = (w, z .held-same ∙ was, le)
+              still w was le (sends-one z) = (z .choice, z .held-new, (let lt = outranks-below _ _ _ (z .higher) was in omega arith))
 
   pub hears : {s : History} {e : Event} (t : Taken g s e) → Valid g s → g .n ≤ 16 → (p : ℕ) → Hearing s e p
   hears {s} {e} t v small p = go _ refl _ refl _ refl
@@ -344,9 +344,9 @@ module _ (g : Setting) (k : Kind) where
 
   -- a property of every frame of p holds of those sent before, and of the one that p sends now
   pub frame-new : {s : History} {e : Event} (P : ℕ → ℕ → Type 0) → Turn s e → ((j c : ℕ) → names s (e .entry .head) j ≡ SomeNumber c → P j c)
-      → ((z : Spoke s e) → P (sent s (e .entry .head)) (z .choice)) → (j c : ℕ) → names (e ∷ s) (e .entry .head) j ≡ SomeNumber c → P j c
-  frame-new {s} {e} P (quiet z) old new j c h = old j c (sym (z .names-same j) ∙ h)
-  frame-new {s} {e} P (spoke z) old new j c h = go (names s (e .entry .head) j) refl (eqb (sent s (e .entry .head)) j) refl (sym (z .names-new j) ∙ h)
+      → ((z : SendsOne s e) → P (sent s (e .entry .head)) (z .choice)) → (j c : ℕ) → names (e ∷ s) (e .entry .head) j ≡ SomeNumber c → P j c
+  frame-new {s} {e} P (sends-none z) old new j c h = old j c (sym (z .names-same j) ∙ h)
+  frame-new {s} {e} P (sends-one z) old new j c h = go (names s (e .entry .head) j) refl (eqb (sent s (e .entry .head)) j) refl (sym (z .names-new j) ∙ h)
     where
       go : (m : OptNumber) → names s (e .entry .head) j ≡ m → (b : Bool) → eqb (sent s (e .entry .head)) j ≡ b → orNumber m (cond b (SomeNumber (z .choice)) NoNumber) ≡ SomeNumber c → P j c
       go (SomeNumber w) u b ub x = old j c (u ∙ x)
@@ -368,8 +368,8 @@ module _ (g : Setting) (k : Kind) where
       (λ d h. subst (λ (i : ℕ). j < i) (sym (sent-other e s p d)) (serial-below v p j c (sym (names-other e s p j d) ∙ h)))
     where
       sent-grows : {i : ℕ} → Turn s e → i < sent s (e .entry .head) → i < sent (e ∷ s) (e .entry .head)
-      sent-grows {i} (quiet z) h = subst (λ (y : ℕ). i < y) (sym (z .sent-same)) h
-      sent-grows (spoke z) h = let eq = z .sent-new in omega arith
+      sent-grows {i} (sends-none z) h = subst (λ (y : ℕ). i < y) (sym (z .sent-same)) h
+      sent-grows (sends-one z) h = let eq = z .sent-new in omega arith
 
   -- the last frame sent names the choice held
   pub record LastFrame (s : History) (p j : ℕ) : Type 0 where
@@ -397,8 +397,8 @@ module _ (g : Setting) (k : Kind) where
       record { choice = b .choice; holds = held-other e s p d ∙ b .holds; names-it = names-other e s p j d ∙ b .names-it })
     where
       go : Turn s e → (sent s (e .entry .head) ≡ suc j → LastFrame s (e .entry .head) j) → sent (e ∷ s) (e .entry .head) ≡ suc j → LastFrame (e ∷ s) (e .entry .head) j
-      go (quiet z) ih h = let b = ih (sym (z .sent-same) ∙ h) in record { choice = b .choice; holds = z .held-same ∙ b .holds; names-it = z .names-same j ∙ b .names-it }
-      go (spoke z) ih h =
+      go (sends-none z) ih h = let b = ih (sym (z .sent-same) ∙ h) in record { choice = b .choice; holds = z .held-same ∙ b .holds; names-it = z .names-same j ∙ b .names-it }
+      go (sends-one z) ih h =
           let eq : sent s (e .entry .head) ≡ j = (let y = sym (z .sent-new) ∙ h in omega arith) in
           let none : names s (e .entry .head) j ≡ NoNumber = subst (λ (i : ℕ). names s (e .entry .head) i ≡ NoNumber) eq (unsent v (e .entry .head)) in
           record { choice = z .choice; holds = z .held-new; names-it = z .names-new j ∙ rw (none, eq-eqb _ j eq) refl }
@@ -417,8 +417,8 @@ module _ (g : Setting) (k : Kind) where
     where
       go : Turn s e → (held s (e .entry .head) ≡ SomeNumber c → (j : ℕ) × (sent s (e .entry .head) ≡ suc j)) → held (e ∷ s) (e .entry .head) ≡ SomeNumber c
           → (j : ℕ) × (sent (e ∷ s) (e .entry .head) ≡ suc j)
-      go (quiet z) ih h = let b = ih (sym (z .held-same) ∙ h) in (b .0, z .sent-same ∙ b .1)
-      go (spoke z) ih h = (sent s (e .entry .head), z .sent-new)
+      go (sends-none z) ih h = let b = ih (sym (z .held-same) ∙ h) in (b .0, z .sent-same ∙ b .1)
+      go (sends-one z) ih h = (sent s (e .entry .head), z .sent-new)
 
   -- A CHOICE ONLY FALLS
 
@@ -428,8 +428,8 @@ module _ (g : Setting) (k : Kind) where
     pub low : choice ≤ c
 
   falls-here : {s : History} {e : Event} → Turn s e → (c : ℕ) → AtMost s (e .entry .head) c → AtMost (e ∷ s) (e .entry .head) c
-  falls-here (quiet z) c a = record { choice = a .choice; holds = z .held-same ∙ a .holds; low = a .low }
-  falls-here {s} {e} (spoke z) c a =
+  falls-here (sends-none z) c a = record { choice = a .choice; holds = z .held-same ∙ a .holds; low = a .low }
+  falls-here {s} {e} (sends-one z) c a =
       record { choice = z .choice; holds = z .held-new; low = (let lt = outranks-below _ _ _ (z .higher) (a .holds) in let l = a .low in omega arith) }
 
   pub falls : {s : History} {e : Event} → Taken g s e → Valid g s → (q c : ℕ) → AtMost s q c → AtMost (e ∷ s) q c

@@ -1,7 +1,7 @@
 -- Record ranges are kept by every step and every run, so a replay never meets cause 10.
 -- The test of cause 10 is turned into facts. A fresh record has them, and an action that is not closed keeps them, in
 -- both parts of its effect. What is kept of a frame in range is in range, and a mark is set only after those that it
--- asks for. Who speaks names itself or whom the frame named, and each choice outranks the last one, so that with k frames
+-- asks for. A head that sends names itself or whom the frame named, and each choice outranks the last one, so that with k frames
 -- sent the choice is at most n − k. An adjustment is carried, or it is a median of readings in range.
 -- Main results: `in-range`, `range-test`, `median-in`, `effect-in-range`, `take-in-range`, `step-in-range`,
 -- `fresh-in-range`, `run-in-range`, `frames-in-range`, `votes-below`.
@@ -22,7 +22,7 @@ use Rattle.protocol.specs.Median.{insert, inOrder, median}
 use Rattle.protocol.specs.Step.{withVoteReading, withLast, accepted, vote, adjust, prepend, voteReadings, outranks, effect, isClosed, takeAction, actionsOf, actionOf, inputFits, step}
 use Rattle.protocol.specs.Run.{History, recordOf, isDeliveredBy, orElse, frameSent, carriedReading}
 use Rattle.protocol.proofs.Tests.{absurd-bool, cases, cond-elim, not-true, not-false, parts, and-both, or-left, or-right, or-cases, implied, all-below, below-all}
-use Rattle.protocol.proofs.Effects.{Kind, votes, adjusts, phaseOf, takenOf, Delivery, noDelivery, deliveryIn, serialOf, named, ignored, keptAfter, prepared, Speech, utter, effect-split, Why, itself, told, Speaks, Source, computed, passed-on, Spoken, says-nothing, says-start, says-vote, says-adjust, no-number, spoken, none-is-some, closed-last}
+use Rattle.protocol.proofs.Effects.{Kind, votes, adjusts, phaseOf, takenOf, Delivery, noDelivery, deliveryIn, serialOf, named, ignored, keptAfter, prepared, Sending, send, effect-split, Why, itself, told, Naming, Source, computed, passed-on, Allowed, sends-nothing, sends-start, sends-vote, sends-adjust, no-number, allowed, none-is-some, closed-last}
 use Rattle.protocol.proofs.Valid.{baseOf, Valid, start, more, heads-fit, record-at, record-other, by-head, fixed}
 
 -- THE RANGES AS FACTS; a reading or a number that is none counts as 0, which is in every range
@@ -250,33 +250,33 @@ module _ {r : HeadRecord} (a : Action) (h : InRange r) (i : ActionInRange (r .n)
   named-below (itself e _ _) = subst (λ (v : ℕ). v < r .n) (sym e) (h .own)
   named-below (told _ e) = subst (λ (v : OptNumber). numberOr0 v < r .n) e (i .frame .choice)
 
-  spoken-in-range : (k : Kind) {c : ℕ} → Speaks k r a c → SentInRange (r .n) (SomeNumber c) (phaseOf k r .sent + 1)
-  spoken-in-range k {c} s = chosen-in-range (r .n) c (phaseOf k r .choice) (phaseOf k r .sent) (named-below (s .why)) (s .higher) (h .phase k)
+  allowed-in-range : (k : Kind) {c : ℕ} → Naming k r a c → SentInRange (r .n) (SomeNumber c) (phaseOf k r .sent + 1)
+  allowed-in-range k {c} s = chosen-in-range (r .n) c (phaseOf k r .choice) (phaseOf k r .sent) (named-below (s .why)) (s .higher) (h .phase k)
 
   source-below : {x : Reading} → Source r a x → x .0 < 2 ^ 28
   source-below (computed _ e) = subst (λ (y : Reading). y .0 < 2 ^ 28) (sym e) (median-in (2 ^ 28) _ (lit< tt) (vote-readings-below prepared-in-range (r .n) (omega arith)))
   source-below (passed-on _ e) = subst (λ (y : OptReading). readingOr0 y < 2 ^ 28) e (i .frame .reading)
 
-  utter-in-range : {x : Speech} → Spoken r a x → AnswerInRange (r .n) (utter x (prepared r a))
+  send-in-range : {x : Sending} → Allowed r a x → AnswerInRange (r .n) (send x (prepared r a))
   unfolding vote adjust
-  utter-in-range says-nothing = (prepared-in-range, omega arith)
-  utter-in-range (says-start e) = (prepared-in-range, omega arith)
-  utter-in-range (says-vote {c = c} s) =
+  send-in-range sends-nothing = (prepared-in-range, omega arith)
+  send-in-range (sends-start e) = (prepared-in-range, omega arith)
+  send-in-range (sends-vote {c = c} s) =
       let m = prepared-in-range in
-      let new = spoken-in-range votes s in
+      let new = allowed-in-range votes s in
       let own = m .kept (r .own) .below (h .own) in
       let start = m .kept c .below (omega arith) .start in
       let mine : SenderInRange (withVoteReading (keptOf (prepared r a) (r .own)) (startOf (prepared r a) c)) = record { start = own .start; vote = start; serial = for-both _ (own .serial votes) (own .serial adjusts) } in
       let kept = set-in-range (prepared r a .senders) (r .own) _ (h .own) mine (m .kept) in
       (record { heads = m .heads; own = m .own; last = m .last; adjustment = m .adjustment; unadjusted = m .unadjusted; phase = for-both _ new (m .phase adjusts); marks = m .marks; kept = kept }, omega arith)
-  utter-in-range (says-adjust s t) =
+  send-in-range (sends-adjust s t) =
       let m = prepared-in-range in
-      let new = spoken-in-range adjusts s in
+      let new = allowed-in-range adjusts s in
       let below = source-below t in
       (record { heads = m .heads; own = m .own; last = m .last; adjustment = below; unadjusted = λ e. none-is-some (sym e); phase = for-both _ (m .phase votes) new; marks = m .marks; kept = m .kept }, omega arith)
 
   pub effect-in-range : AnswerInRange (r .n) (effect r a)
-  effect-in-range = subst (AnswerInRange (r .n)) (sym (effect-split r a)) (utter-in-range (spoken r a o))
+  effect-in-range = subst (AnswerInRange (r .n)) (sym (effect-split r a)) (send-in-range (allowed r a o))
 
 -- A STEP
 

@@ -18,7 +18,7 @@ use Rattle.protocol.proofs.Tests.{absurd-bool, cases, and-left, and-rig
 use Rattle.protocol.proofs.Moments.{Earlier, now, later, earlier-past, any-grows, any-map, First, first-of, before-stays, find-after, each-at}
 use Rattle.protocol.proofs.Effects.{Kind, votes, adjusts, delivery, closing, none-is-some, same-number}
 use Rattle.protocol.proofs.Valid.{Valid, valid-past, valid-taken, valid-earlier, Taken, Sheet, by-head, closed-took}
-use Rattle.protocol.proofs.Phases.{held, sent, isOver, held-other, Origin, own, heard, Turn, quiet, spoke, Spoke, turn, agree}
+use Rattle.protocol.proofs.Phases.{held, sent, isOver, held-other, Origin, own, heard, Turn, sends-none, sends-one, SendsOne, turn, agree}
 
 pub record Round (g : Setting) (h : History) : Type 0 where
   pub sheet : Sheet g h
@@ -217,13 +217,13 @@ module _ {g : Setting} {h : History} (r : Round g h) (k : Kind) where
         by-head (λ q. CorrectHead g q → held g k (e ∷ s) q ≡ SomeNumber chosen) e q (λ c. go c (turn g k t v))
         (λ d c. held-other g k e s q d ∙ z q c)
       where
-        silent : (x : Spoke g k s e) → CorrectHead g (e .entry .head) → Origin g k s e (x .choice) → ⊥
+        silent : (x : SendsOne g k s e) → CorrectHead g (e .entry .head) → Origin g k s e (x .choice) → ⊥
         silent x c (own is none tu) = none-is-some (sym none ∙ z (e .entry .head) c)
         silent x c (heard a n) = absurd-bool (finds c a) (x .was-open)
 
         go : CorrectHead g (e .entry .head) → Turn g k s e → held g k (e ∷ s) (e .entry .head) ≡ SomeNumber chosen
-        go c (quiet x) = x .held-same ∙ z (e .entry .head) c
-        go c (spoke x) = absurd (silent x c (x .origin))
+        go c (sends-none x) = x .held-same ∙ z (e .entry .head) c
+        go c (sends-one x) = absurd (silent x c (x .origin))
 
     settled-after : {s : History} (b : Event) → isClose r k b ≡ true → Earlier (b ∷ moment r k) s → Earlier s h → Settled s
     settled-after b close now x =

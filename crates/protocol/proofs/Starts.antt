@@ -18,7 +18,7 @@ use Rattle.protocol.specs.Run.{Event, History, recordOf, frameSent, fram
 use Rattle.protocol.specs.Premises.{takes, receives, took, received, lastStart}
 use Rattle.protocol.proofs.Tests.{absurd-bool, cases, and-left, and-right, and-both, or-second, or-right, eqb-same, count-mono}
 use Rattle.protocol.proofs.Moments.{Earlier, now, later}
-use Rattle.protocol.proofs.Effects.{votes, adjusts, deliveredBy, withSenders, ignored, keptAfter, column-kept, prepared, Speech, nothing, voting, adjusting, utter, speechOf, none-is-some}
+use Rattle.protocol.proofs.Effects.{votes, adjusts, deliveredBy, withSenders, ignored, keptAfter, column-kept, prepared, Sending, nothing, voting, adjusting, send, sendingOf, none-is-some}
 use Rattle.protocol.proofs.Effects as Effects
 use Rattle.protocol.proofs.Valid.{baseOf, Taken, Valid, start, more, record-other, by-head, invariant, keptNext, kept-at, closed-took, confirmed-took}
 use Rattle.protocol.proofs.Ranges.{run-in-range}
@@ -51,49 +51,49 @@ waiting-same r m en ef tu cl ch st w a b c =
     let few = w (tu a) (cl b) (sym ch ∙ c) in
     omega arith
 
--- a head that speaks has a candidate, or is as it was
-waiting-utter : (x : Speech) (m : HeadRecord) → Waiting m → Waiting (utter x m .after)
+-- a head that has sent has a candidate, or is as it was
+waiting-send : (x : Sending) (m : HeadRecord) → Waiting m → Waiting (send x m .after)
 unfolding vote adjust startsHeld
-waiting-utter nothing m w = w
-waiting-utter Effects.Speech.start m w = w
-waiting-utter (voting c) m w = λ a b h. none-is-some (sym h)
-waiting-utter (adjusting c x) m w = w
+waiting-send nothing m w = w
+waiting-send Effects.Sending.start m w = w
+waiting-send (voting c) m w = λ a b h. none-is-some (sym h)
+waiting-send (adjusting c x) m w = w
 
 -- after 2 and 4 a head that does not vote waits
-waiting-lead : (m : HeadRecord) (c : ℕ) → Waiting (utter (cond (mayLead m) (voting c) nothing) m .after)
+waiting-lead : (m : HeadRecord) (c : ℕ) → Waiting (send (cond (mayLead m) (voting c) nothing) m .after)
 unfolding mayLead vote startsHeld
 waiting-lead m c = go (mayLead m) refl
   where
-    go : (b : Bool) → mayLead m ≡ b → Waiting (utter (cond b (voting c) nothing) m .after)
+    go : (b : Bool) → mayLead m ≡ b → Waiting (send (cond b (voting c) nothing) m .after)
     go true u = λ a b h. none-is-some (sym h)
     go false u = λ a b h.
         let few : leb (m .f + 1) (startsHeld m) ≡ false = (rw (a, b, h) at u) in
         let lt = leb-false (m .f + 1) (startsHeld m) few in
         omega arith
 
-waiting-effect : (r : HeadRecord) (a : Action) → Waiting r → Waiting (utter (speechOf r a) (prepared r a) .after)
+waiting-effect : (r : HeadRecord) (a : Action) → Waiting r → Waiting (send (sendingOf r a) (prepared r a) .after)
 unfolding startsHeld
-waiting-effect r Look w = waiting-utter nothing (prepared r Look) w
-waiting-effect r StartSent w = waiting-utter Effects.Speech.start (prepared r StartSent) w
+waiting-effect r Look w = waiting-send nothing (prepared r Look) w
+waiting-effect r StartSent w = waiting-send Effects.Sending.start (prepared r StartSent) w
 waiting-effect r (StartDelivered p) w = go (r .adjust .closed)
   where
     l : List Sender
     l = set (r .senders) p (keptAfter r p Start)
 
-    go : (b : Bool) → Waiting (utter (cond b nothing (cond (mayLead (withSenders r l)) (voting (r .own)) nothing)) (withSenders r (cond b (r .senders) l)) .after)
+    go : (b : Bool) → Waiting (send (cond b nothing (cond (mayLead (withSenders r l)) (voting (r .own)) nothing)) (withSenders r (cond b (r .senders) l)) .after)
     go true = w
     go false = waiting-lead (withSenders r l) (r .own)
-waiting-effect r StartConfirmed w = waiting-utter nothing (prepared r StartConfirmed) w
+waiting-effect r StartConfirmed w = waiting-send nothing (prepared r StartConfirmed) w
 waiting-effect r VoteTurn w = waiting-lead (prepared r VoteTurn) (r .own)
 waiting-effect r (VoteDelivered p k c x) w =
-    waiting-utter (speechOf r (VoteDelivered p k c x)) (prepared r (VoteDelivered p k c x))
+    waiting-send (sendingOf r (VoteDelivered p k c x)) (prepared r (VoteDelivered p k c x))
     (waiting-same r (prepared r (VoteDelivered p k c x)) refl refl (λ h. h) (λ h. h) refl (λ v. column-kept (λ z. z .start) r p (Vote k c x) v refl) w)
-waiting-effect r VoteClose w = waiting-utter nothing (prepared r VoteClose) (λ a b h. absurd-bool refl b)
-waiting-effect r AdjustTurn w = waiting-utter (speechOf r AdjustTurn) (prepared r AdjustTurn) w
+waiting-effect r VoteClose w = waiting-send nothing (prepared r VoteClose) (λ a b h. absurd-bool refl b)
+waiting-effect r AdjustTurn w = waiting-send (sendingOf r AdjustTurn) (prepared r AdjustTurn) w
 waiting-effect r (AdjustDelivered p k c x) w =
-    waiting-utter (speechOf r (AdjustDelivered p k c x)) (prepared r (AdjustDelivered p k c x))
+    waiting-send (sendingOf r (AdjustDelivered p k c x)) (prepared r (AdjustDelivered p k c x))
     (waiting-same r (prepared r (AdjustDelivered p k c x)) refl refl (λ h. h) (λ h. h) refl (λ v. column-kept (λ z. z .start) r p (Adjust k c x) v refl) w)
-waiting-effect r AdjustClose w = waiting-utter nothing (prepared r AdjustClose) w
+waiting-effect r AdjustClose w = waiting-send nothing (prepared r AdjustClose) w
 
 -- the delivery that gave a start reading
 pub record StartAt (g : Setting) (s : History) (q v : ℕ) : Type 0 where

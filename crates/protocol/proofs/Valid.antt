@@ -20,7 +20,7 @@ use Rattle.protocol.specs.Premises.{took}
 use Rattle.protocol.proofs.Tests.{absurd-bool, cases, parts, and-left, and-right, or-left, or-right, not-false, eqb-same}
 use Rattle.protocol.proofs.Fits.{entry-fits, sheet-fits}
 use Rattle.protocol.proofs.Moments.{Earlier, now, later}
-use Rattle.protocol.proofs.Effects.{Kind, votes, adjusts, phaseOf, closing, number, deliveryIn, deliveredBy, serialOf, utter, speechOf, prepared, effect-split, effect-accepted, marksOf, utter-marks, utter-same, utter-keeps, prepared-same, ignored, keptAfter, kept-after}
+use Rattle.protocol.proofs.Effects.{Kind, votes, adjusts, phaseOf, closing, number, deliveryIn, deliveredBy, serialOf, send, sendingOf, prepared, effect-split, effect-accepted, marksOf, send-marks, send-same, send-keeps, prepared-same, ignored, keptAfter, kept-after}
 
 -- the record that the event's step worked on: its head's, with the reading already kept
 abbrev pub baseOf : Setting → History → Event → HeadRecord
@@ -271,14 +271,14 @@ by-head P e q a b = cases (eqb (e .entry .head) q) (λ t. subst P (eqb-true (e .
 
 module _ (g : Setting) where
   -- a fact of every effect is a fact of an event
-  pub of-effect : (P : Stepped → Type 0) {s : History} {e : Event} (t : Taken g s e) → P (utter (speechOf (baseOf g s e) (t .action)) (prepared (baseOf g s e) (t .action)))
+  pub of-effect : (P : Stepped → Type 0) {s : History} {e : Event} (t : Taken g s e) → P (send (sendingOf (baseOf g s e) (t .action)) (prepared (baseOf g s e) (t .action)))
       → P (accepted (e .after) (e .frame))
   of-effect P t h = subst P (sym (t .result ∙ effect-split _ _)) h
 
   -- an invariant of a head's record: it holds of a fresh one, and a step keeps it at the head that takes it
   pub invariant : (P : ℕ → HeadRecord → Type 0) → ((q : ℕ) → P q (fresh (g .n) (g .f) q))
       → ((s : History) (e : Event) (t : Taken g s e) → Valid g s → P (e .entry .head) (recordOf g s (e .entry .head))
-      → P (e .entry .head) (utter (speechOf (baseOf g s e) (t .action)) (prepared (baseOf g s e) (t .action)) .after))
+      → P (e .entry .head) (send (sendingOf (baseOf g s e) (t .action)) (prepared (baseOf g s e) (t .action)) .after))
       → {s : History} → Valid g s → (q : ℕ) → P q (recordOf g s q)
   unfolding recordOf
   invariant P first step start q = first q
@@ -299,7 +299,7 @@ module _ (g : Setting) where
   fixed =
       invariant Fixed (λ q. record { n-is = refl; f-is = refl; own-is = refl; size-is = refl })
       (λ s e t v b. let m = prepared-same (baseOf g s e) (t .action) in
-      let u = utter-same (speechOf (baseOf g s e) (t .action)) (prepared (baseOf g s e) (t .action)) in
+      let u = send-same (sendingOf (baseOf g s e) (t .action)) (prepared (baseOf g s e) (t .action)) in
       record { n-is = u .n ∙ b .n-is; f-is = u .f ∙ b .f-is; own-is = u .own ∙ b .own-is; size-is = u .size ∙ m .size ∙ b .size-is })
 
   -- a mark is set by the action that sets it; m picks the mark
@@ -311,7 +311,7 @@ module _ (g : Setting) where
   mark-took m a z step (more {e = e} {s = s} t v) q =
       by-head (λ q. m (marksOf (recordOf g (e ∷ s) q)) ≡ took a q (e ∷ s)) e q
       (rw (record-at g e s, eqb-same (e .entry .head)) (of-effect (λ x. m (marksOf (x .after)) ≡ (eqb (e .entry .action) a || took a (e .entry .head) s)) t
-      (ap m (utter-marks (speechOf (baseOf g s e) (t .action)) (prepared (baseOf g s e) (t .action))) ∙ step (baseOf g s e) (t .action)
+      (ap m (send-marks (sendingOf (baseOf g s e) (t .action)) (prepared (baseOf g s e) (t .action))) ∙ step (baseOf g s e) (t .action)
       ∙ rw (t .asked .number-is, mark-took m a z step v (e .entry .head)) refl)))
       (λ d. rw (record-other g e s q d, d) (mark-took m a z step v q))
 
@@ -332,7 +332,7 @@ module _ (g : Setting) where
   closed-took votes = mark-took (λ l. getD l 3 false) 6 refl (λ r i. refl)
   closed-took adjusts = mark-took (λ l. getD l 5 false) 9 refl (λ r i. refl)
 
-  -- what is kept by sender p at the head of an event, before the head speaks
+  -- what is kept by sender p at the head of an event, before the head sends
   abbrev pub keptNext : (s : History) (e : Event) (p : ℕ) → Sender
   keptNext s e p =
       cond (not (ignored (baseOf g s e) (e .entry .sender) (frameOf s (e .entry))) && eqb (e .entry .sender) p)
@@ -344,5 +344,5 @@ module _ (g : Setting) where
   kept-at part keeps {s} {e} t v small p =
       let fits : e .entry .sender < length (recordOf g s (e .entry .head) .senders) = rw (fixed v (e .entry .head) .size-is) (let z = t .sender-below in omega arith) in
       rw (record-at g e s) (of-effect (λ y. part (keptOf (y .after) p) ≡ part (keptNext s e p)) t
-      (utter-keeps part keeps (speechOf (baseOf g s e) (t .action)) (prepared (baseOf g s e) (t .action)) p
+      (send-keeps part keeps (sendingOf (baseOf g s e) (t .action)) (prepared (baseOf g s e) (t .action)) p
       ∙ rw (t .asked .delivery-is) (ap part (kept-after (baseOf g s e) (e .entry .sender) (frameOf s (e .entry)) p fits))))

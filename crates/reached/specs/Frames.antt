@@ -7,20 +7,17 @@ use lib.ListN.{getD}
 use Rattle.protocol.specs.Base.{_⇒_, allBelow}
 use Rattle.protocol.specs.declared.Setting.{Setting}
 use Rattle.protocol.specs.Words.{isCorrect}
+use Rattle.places.specs.Places.{placeFor}
 use Rattle.sets.specs.Sets.{withHead, hasHead, hasAll}
 
 -- the place of the set of the heads to which an action delivered the frame of sender p and serial k
 abbrev pub receiversPlace : ℕ → ℕ → ℕ → ℕ
 receiversPlace a p k = a % 16 * 256 + p % 16 * 16 + k % 16
 
--- the place of the index of the entry that sent a vote (action 5) or an adjust (action 8)
-abbrev pub sendingPlace : ℕ → ℕ → ℕ → ℕ
-sendingPlace a p k = cond (eqb a 8) 256 0 + p % 16 * 16 + k % 16
-
 -- a frame that was sent before entry i reached all correct heads, its sender p left aside
 abbrev pub frameReached : Setting → ℕ → List ℕ → List ℕ → ℕ → ℕ → ℕ → Bool
 frameReached g i received sending a p k =
-    ltb (getD sending (sendingPlace a p k) 0) i ⇒ hasAll (withHead (getD received (receiversPlace a p k) 0) p) (g .correct)
+    ltb (getD sending (placeFor a p k) 0) i ⇒ hasAll (withHead (getD received (receiversPlace a p k) 0) p) (g .correct)
 
 abbrev pub tookIn : List ℕ → ℕ → ℕ → Bool
 tookIn took a p = hasHead (getD took a 0) p

@@ -4,7 +4,8 @@ ghost use mathlib.Core.Path.{_≡_};
 ghost use Prim.Native.Nat.{_<_};
 ghost use Rattle.protocol.specs.Base.{allBelow};
 ghost use lib.ListN.{getD};
-ghost use Rattle.reached.specs.Frames.{receiversPlace, sendingPlace, frameReached, tookIn, tookPart, startReached, phaseTaken, headReached, phaseHeard};
+ghost use Rattle.reached.specs.Frames.{receiversPlace, frameReached, tookIn, tookPart, startReached, phaseTaken, headReached, phaseHeard};
+use places::place_for;
 use protocol::Setting;
 use sets::has_all;
 use sets::has_head;
@@ -15,16 +16,6 @@ pub fn receivers_place(a: u8, p: u8, k: u8) -> usize
     ensures { λ j. ⌜ (j ≡ receiversPlace a p k) × (j < 4096) ⌝ }
 {
     (a % 16) as usize * 256 + (p % 16) as usize * 16 + (k % 16) as usize
-}
-
-fn sending_place(a: u8, p: u8, k: u8) -> usize
-    ensures { λ j. ⌜ (j ≡ sendingPlace a p k) × (j < 512) ⌝ }
-{
-    if a == 8 {
-        256 + (p % 16) as usize * 16 + (k % 16) as usize
-    } else {
-        0 + (p % 16) as usize * 16 + (k % 16) as usize
-    }
 }
 
 fn set_at(sets: &[u16], j: usize) -> u16
@@ -57,7 +48,7 @@ fn frame_reached(
 ) -> bool
     ensures { λ b. ⌜ b ≡ frameReached g i (now (received .entry)) (now (sending .entry)) a p k ⌝ }
 {
-    if index_at(sending, sending_place(a, p, k)) < i {
+    if index_at(sending, place_for(a, p, k)) < i {
         let receivers = set_at(received, receivers_place(a, p, k));
         has_all(with_head(receivers, p), g.correct)
     } else {

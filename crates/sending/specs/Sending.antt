@@ -15,11 +15,11 @@ use Rattle.changes.specs.declared.Message.the-variants.{NoMessage, StartMessage
 use Rattle.changes.specs.Changes.{stateFrom}
 
 -- only a vote or an adjust leaves anything in the record
-abbrev pub speaks : Message → Bool
-speaks NoMessage = false
-speaks StartMessage = false
-speaks (VoteMessage c) = true
-speaks (AdjustMessage c x) = true
+abbrev pub namesChoice : Message → Bool
+namesChoice NoMessage = false
+namesChoice StartMessage = false
+namesChoice (VoteMessage c) = true
+namesChoice (AdjustMessage c x) = true
 
 abbrev pub votedFor : ℕ → Message → ℕ
 votedFor own NoMessage = own

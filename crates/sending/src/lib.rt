@@ -9,11 +9,11 @@ use protocol::Reading;
 use protocol::Sender;
 ghost use mathlib.Core.Path.{_≡_};
 ghost use Rattle.protocol.specs.Step.{withVoteReading};
-ghost use Rattle.sending.specs.Sending.{speaks, votedFor, keepOwn, chooseByte, voteAfter, adjustAfter, adjustmentAfter, stateAfter, frameOf};
+ghost use Rattle.sending.specs.Sending.{namesChoice, votedFor, keepOwn, chooseByte, voteAfter, adjustAfter, adjustmentAfter, stateAfter, frameOf};
 
 // Whether a message is a vote or an adjust: no other leaves anything in the record.
-pub fn speaks(s: Message) -> bool
-    ensures { λ t. ⌜ t ≡ speaks s ⌝ }
+pub fn names_choice(s: Message) -> bool
+    ensures { λ t. ⌜ t ≡ namesChoice s ⌝ }
 {
     match s {
         Message::NoMessage => false,

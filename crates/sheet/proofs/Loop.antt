@@ -39,14 +39,15 @@ use Rattle.changes.specs.declared.Message.{Message}
 use Rattle.changes.specs.declared.Message.the-variants.{NoMessage, StartMessage, VoteMessage, AdjustMessage}
 use Rattle.changes.specs.declared.Change.{Change}
 use Rattle.changes.specs.Changes.{changeOf, senderOf, stateFrom}
-use Rattle.sending.specs.Sending.{speaks, votedFor, keepOwn, voteAfter, adjustAfter, adjustmentAfter, stateAfter, frameOf as messageFrame}
-use Rattle.actions.specs.Actions.{stateOf, stateFits, numbersFit, openVerdict, withReading, admittedBy, countedOf, saidOf, recordWith}
-use Rattle.actions.proofs.Built.{sending, builtBy, built, sayable, built-open}
+use Rattle.sending.specs.Sending.{namesChoice, votedFor, keepOwn, voteAfter, adjustAfter, adjustmentAfter, stateAfter, frameOf as messageFrame}
+use Rattle.actions.specs.Actions.{stateOf, stateFits, numbersFit, openVerdict, withReading, admittedBy, countedOf, messageOf, recordWith}
+use Rattle.actions.proofs.Built.{sending, builtBy, built, sendable, built-open}
 use Rattle.entries.specs.Entries.{deliveredFrame, entryVerdict}
 use Rattle.sheet.specs.declared.Sent.{Sent}
 use Rattle.sheet.specs.declared.Read.{Read}
 use Rattle.sheet.specs.declared.Ran.{Ran}
-use Rattle.sheet.specs.Bench.{table, noRecord, noSent, freshState, noState, rowOf, recordIn, readOf, placeFor, placeOfFrame, keptFrame, sentOf, benchOf, noSetting, answerOf}
+use Rattle.sheet.specs.Bench.{table, noRecord, noSent, freshState, noState, rowOf, recordIn, readOf, placeOfFrame, keptFrame, sentOf, benchOf, noSetting, answerOf}
+use Rattle.places.specs.Places.{placeFor}
 use Rattle.sheet.proofs.Tables.{length-table, is-table, table-at, set-table}
 use Rattle.sheet.proofs.Rows.{flat, flat-at, row-flat, set-row, once-at, once-row, set-twice}
 use Rattle.sheet.proofs.Runs.{first-sent, place-fields, place-below, looked-up, set-sent}
@@ -226,30 +227,30 @@ below-16 x h = omega arith
 
 -- A MESSAGE THAT IS NO VOTE AND NO ADJUST LEAVES NOTHING
 
-quiet-said : (r : HeadRecord) (d : Change) (s : Message) → d .message ≡ s → speaks s ≡ false → saidOf r d ≡ s
+silent-message : (r : HeadRecord) (d : Change) (s : Message) → d .message ≡ s → namesChoice s ≡ false → messageOf r d ≡ s
 unfolding countedOf
-quiet-said r d NoMessage e h = rw e (cond-elim (λ (s : Message). s ≡ NoMessage) (d .counts) (λ t. refl) (λ t. refl))
-quiet-said r d StartMessage e h = rw e (cond-elim (λ (s : Message). s ≡ StartMessage) (d .counts) (λ t. refl) (λ t. refl))
-quiet-said r d (VoteMessage c) e h = absurd-bool refl h
-quiet-said r d (AdjustMessage c x) e h = absurd-bool refl h
+silent-message r d NoMessage e h = rw e (cond-elim (λ (s : Message). s ≡ NoMessage) (d .counts) (λ t. refl) (λ t. refl))
+silent-message r d StartMessage e h = rw e (cond-elim (λ (s : Message). s ≡ StartMessage) (d .counts) (λ t. refl) (λ t. refl))
+silent-message r d (VoteMessage c) e h = absurd-bool refl h
+silent-message r d (AdjustMessage c x) e h = absurd-bool refl h
 
-quiet-state : (b : State) (s : Message) → speaks s ≡ false → stateAfter b s ≡ b
-quiet-state b NoMessage h = refl
-quiet-state b StartMessage h = refl
-quiet-state b (VoteMessage c) h = absurd-bool refl h
-quiet-state b (AdjustMessage c x) h = absurd-bool refl h
+silent-state : (b : State) (s : Message) → namesChoice s ≡ false → stateAfter b s ≡ b
+silent-state b NoMessage h = refl
+silent-state b StartMessage h = refl
+silent-state b (VoteMessage c) h = absurd-bool refl h
+silent-state b (AdjustMessage c x) h = absurd-bool refl h
 
-quiet-own : (k : Sender) (s : Message) (x : OptReading) → speaks s ≡ false → keepOwn k s x ≡ k
-quiet-own k NoMessage x h = refl
-quiet-own k StartMessage x h = refl
-quiet-own k (VoteMessage c) x h = absurd-bool refl h
-quiet-own k (AdjustMessage c y) x h = absurd-bool refl h
+silent-own : (k : Sender) (s : Message) (x : OptReading) → namesChoice s ≡ false → keepOwn k s x ≡ k
+silent-own k NoMessage x h = refl
+silent-own k StartMessage x h = refl
+silent-own k (VoteMessage c) x h = absurd-bool refl h
+silent-own k (AdjustMessage c y) x h = absurd-bool refl h
 
-quiet-sent : (old : Sent) (b : State) (s : Message) (x : OptReading) (i : ℕ) → speaks s ≡ false → keptFrame old (messageFrame b s x) i ≡ old
-quiet-sent old b NoMessage x i h = refl
-quiet-sent old b StartMessage x i h = refl
-quiet-sent old b (VoteMessage c) x i h = absurd-bool refl h
-quiet-sent old b (AdjustMessage c y) x i h = absurd-bool refl h
+silent-sent : (old : Sent) (b : State) (s : Message) (x : OptReading) (i : ℕ) → namesChoice s ≡ false → keptFrame old (messageFrame b s x) i ≡ old
+silent-sent old b NoMessage x i h = refl
+silent-sent old b StartMessage x i h = refl
+silent-sent old b (VoteMessage c) x i h = absurd-bool refl h
+silent-sent old b (AdjustMessage c y) x i h = absurd-bool refl h
 
 -- THE LOOP
 
@@ -308,8 +309,8 @@ module _ (ws : List ℕ) (fit : headsFit (settingAt ws .n) (settingAt ws .f) ≡
     abbrev p : ℕ
     p = seatOf g fit valid-now e
 
-    abbrev said-now : Message
-    said-now = sending head p d
+    abbrev message-now : Message
+    message-now = sending head p d
 
     abbrev event : Event
     event = eventOf ws i (k .run-is) new
@@ -339,17 +340,17 @@ module _ (ws : List ℕ) (fit : headsFit (settingAt ws .n) (settingAt ws .f) ≡
 
     -- the arrays after it
     keeps-on : (states′ : List State) (senders′ : List Sender) (sent′ : List Sent)
-        → states′ ≡ set states (e .head) (stateAfter (d .state) said-now)
+        → states′ ≡ set states (e .head) (stateAfter (d .state) message-now)
         → senders′ ≡ table (flat (rowsAt g (event ∷ s))) 0 256
         → sent′ ≡ set sent (placeOfFrame (e .head) (new .frame)) (keptFrame (getD sent (placeOfFrame (e .head) (new .frame)) noSent) (new .frame) i)
         → Keeps ws (i + 1) states′ senders′ sent′ (e .time .0)
     keeps-on states′ senders′ sent′ es er et = record {
       history = event ∷ s;
       run-is = run-on;
-      states-are = es ∙ ap (λ (l : List State). set l (e .head) (stateAfter (d .state) said-now)) (k .states-are)
+      states-are = es ∙ ap (λ (l : List State). set l (e .head) (stateAfter (d .state) message-now)) (k .states-are)
           ∙ set-table (stateAt g s) (stateAt g (event ∷ s)) 16 (e .head) _ noState head-low
           (ap (λ (r : HeadRecord). stateOf r (r .last)) (record-at g event s)
-          ∙ ap (λ (m : ℕ). stateFrom m (d .state .last) (d .state .started) (d .state .confirmed) (voteAfter (d .state) said-now) (adjustAfter (d .state) said-now) (adjustmentAfter (d .state) said-now)) (sym (sayable head (e .reading) (fitting .0) _ _ (fitting .1) .same)))
+          ∙ ap (λ (m : ℕ). stateFrom m (d .state .last) (d .state .started) (d .state .confirmed) (voteAfter (d .state) message-now) (adjustAfter (d .state) message-now) (adjustmentAfter (d .state) message-now)) (sym (sendable head (e .reading) (fitting .0) _ _ (fitting .1) .same)))
           (λ j lt t. ap (λ (r : HeadRecord). stateOf r (r .last)) (other j t));
       senders-are = er;
       sent-are = et ∙ ap (λ (l : List Sent). set l place (keptFrame (getD sent place noSent) (new .frame) i)) (k .sent-are)
@@ -372,18 +373,18 @@ module _ (ws : List ℕ) (fit : headsFit (settingAt ws .n) (settingAt ws .f) ≡
     kept-sent : (l : List Sent) (j : ℕ) (z : Sent) → z ≡ getD l j noSent → l ≡ set l j z
     kept-sent l j z h = sym (ap (set l j) h ∙ set-getD l j noSent)
 
-    quiet-keeps : speaks (d .message) ≡ false → Keeps ws (i + 1) (set states (e .head) (d .state)) (set senders (e .head * 16 + p) (d .kept)) sent (e .time .0)
-    quiet-keeps h =
+    silent-keeps : namesChoice (d .message) ≡ false → Keeps ws (i + 1) (set states (e .head) (d .state)) (set senders (e .head * 16 + p) (d .kept)) sent (e .time .0)
+    silent-keeps h =
         keeps-on _ _ _
-        (ap (set states (e .head)) (sym (quiet-state (d .state) said-now silent)))
+        (ap (set states (e .head)) (sym (silent-state (d .state) message-now silent)))
         (ap (λ (l : List Sender). set l (e .head * 16 + p) (d .kept)) (k .senders-are)
         ∙ set-row (rowsAt g s) (rowsAt g (event ∷ s)) (e .head) p (d .kept) head-low seat-low long
-        (row-after ∙ ap (set row own) (quiet-own (getD row own noSender) said-now _ silent) ∙ set-getD row own noSender)
+        (row-after ∙ ap (set row own) (silent-own (getD row own noSender) message-now _ silent) ∙ set-getD row own noSender)
         (λ j t. ap (λ (r : HeadRecord). r .senders) (other j t)))
-        (kept-sent sent _ _ (quiet-sent _ (d .state) said-now _ i silent))
+        (kept-sent sent _ _ (silent-sent _ (d .state) message-now _ i silent))
       where
-        silent : speaks said-now ≡ false
-        silent = ap speaks (quiet-said _ d (d .message) refl h) ∙ h
+        silent : namesChoice message-now ≡ false
+        silent = ap namesChoice (silent-message _ d (d .message) refl h) ∙ h
 
         row : List Sender
         row = set (head .senders) p (d .kept)
@@ -395,7 +396,7 @@ module _ (ws : List ℕ) (fit : headsFit (settingAt ws .n) (settingAt ws .f) ≡
     row1 = set senders (e .head * 16 + p) (d .kept)
 
     abbrev chosen : ℕ
-    chosen = votedFor (head .own) said-now % 16
+    chosen = votedFor (head .own) message-now % 16
 
     row-at : (u : ℕ) → u < 16 → getD row1 (e .head * 16 + u) noSender ≡ getD (set (head .senders) p (d .kept)) u noSender
     row-at u l =
@@ -407,27 +408,27 @@ module _ (ws : List ℕ) (fit : headsFit (settingAt ws .n) (settingAt ws .f) ≡
         ap (λ (t : List Sender). rowOf (set t (e .head * 16 + p) (d .kept)) (e .head)) (k .senders-are)
         ∙ once-row (rowsAt g s) (e .head) p (d .kept) head-low seat-low long
 
-    said-is : saidOf (recordWith (g .n) (g .f) (stateAt g s (e .head)) (rowOf row1 (e .head))) d ≡ said-now
-    said-is =
+    message-is : messageOf (recordWith (g .n) (g .f) (stateAt g s (e .head)) (rowOf row1 (e .head))) d ≡ message-now
+    message-is =
         let x = fixed g valid-now (e .head) in
-        ap (λ (n : ℕ). saidOf (recordWith n (g .f) (stateAt g s (e .head)) (rowOf row1 (e .head))) d) (sym (x .n-is))
-        ∙ ap (λ (m : ℕ). saidOf (recordWith (head .n) m (stateAt g s (e .head)) (rowOf row1 (e .head))) d) (sym (x .f-is))
-        ∙ ap (λ (l : List Sender). saidOf (recordWith (head .n) (head .f) (stateAt g s (e .head)) l) d) row-is
+        ap (λ (n : ℕ). messageOf (recordWith n (g .f) (stateAt g s (e .head)) (rowOf row1 (e .head))) d) (sym (x .n-is))
+        ∙ ap (λ (m : ℕ). messageOf (recordWith (head .n) m (stateAt g s (e .head)) (rowOf row1 (e .head))) d) (sym (x .f-is))
+        ∙ ap (λ (l : List Sender). messageOf (recordWith (head .n) (head .f) (stateAt g s (e .head)) l) d) row-is
 
-    frame-now : messageFrame (d .state) said-now (getD row1 (e .head * 16 + chosen) noSender .start) ≡ new .frame
-    frame-now = ap (λ (z : Sender). messageFrame (d .state) said-now (z .start)) (row-at chosen (omega arith))
+    frame-now : messageFrame (d .state) message-now (getD row1 (e .head * 16 + chosen) noSender .start) ≡ new .frame
+    frame-now = ap (λ (z : Sender). messageFrame (d .state) message-now (z .start)) (row-at chosen (omega arith))
 
-    own-now : keepOwn (getD row1 (e .head * 16 + head .own % 16) noSender) said-now (getD row1 (e .head * 16 + chosen) noSender .start)
-        ≡ keepOwn (getD (set (head .senders) p (d .kept)) (head .own % 16) noSender) said-now (getD (set (head .senders) p (d .kept)) chosen noSender .start)
-    own-now = ap₂ (λ (y z : Sender). keepOwn y said-now (z .start)) (row-at (head .own % 16) (omega arith)) (row-at chosen (omega arith))
+    own-now : keepOwn (getD row1 (e .head * 16 + head .own % 16) noSender) message-now (getD row1 (e .head * 16 + chosen) noSender .start)
+        ≡ keepOwn (getD (set (head .senders) p (d .kept)) (head .own % 16) noSender) message-now (getD (set (head .senders) p (d .kept)) chosen noSender .start)
+    own-now = ap₂ (λ (y z : Sender). keepOwn y message-now (z .start)) (row-at (head .own % 16) (omega arith)) (row-at chosen (omega arith))
 
-    spoke-keeps : (sa : State) (ko : Sender) (y : Frame) (z : Sent)
-        → sa ≡ stateAfter (d .state) said-now
-        → ko ≡ keepOwn (getD row1 (e .head * 16 + head .own % 16) noSender) said-now (getD row1 (e .head * 16 + chosen) noSender .start)
-        → y ≡ messageFrame (d .state) said-now (getD row1 (e .head * 16 + chosen) noSender .start)
+    sent-keeps : (sa : State) (ko : Sender) (y : Frame) (z : Sent)
+        → sa ≡ stateAfter (d .state) message-now
+        → ko ≡ keepOwn (getD row1 (e .head * 16 + head .own % 16) noSender) message-now (getD row1 (e .head * 16 + chosen) noSender .start)
+        → y ≡ messageFrame (d .state) message-now (getD row1 (e .head * 16 + chosen) noSender .start)
         → z ≡ keptFrame (getD sent (placeOfFrame (e .head) y) noSent) y i
         → Keeps ws (i + 1) (set (set states (e .head) (d .state)) (e .head) sa) (set row1 (e .head * 16 + head .own % 16) ko) (set sent (placeOfFrame (e .head) y) z) (e .time .0)
-    spoke-keeps sa ko y z ea eo ey ez =
+    sent-keeps sa ko y z ea eo ey ez =
         keeps-on _ _ _
         (set-set states (e .head) (d .state) sa ∙ ap (set states (e .head)) ea)
         (ap (λ (l : List Sender). set (set l (e .head * 16 + p) (d .kept)) (e .head * 16 + head .own % 16) ko) (k .senders-are)
@@ -536,22 +537,22 @@ module _ (ws : List ℕ) (g : Setting) (is : g ≡ settingAt ws) (fit : headsFit
         ∙ ap (λ (z : Sender). changeOf (stateOf held (now .reading)) z a) sender-is
         ∙ ap (changeOf (stateOf held (now .reading)) (getD (held .senders) to noSender)) a-is
 
-    pub run-quiet : speaks (d .message) ≡ false → Keeps ws (i + 1) (set states q (d .state)) (set senders p (d .kept)) sent (r .entry .time .0)
-    run-quiet h =
+    pub run-silent : namesChoice (d .message) ≡ false → Keeps ws (i + 1) (set states q (d .state)) (set senders p (d .kept)) sent (r .entry .time .0)
+    run-silent h =
         rw (q-is, p-is, d-is, entry-is)
-        (quiet-keeps ws fit′ i states senders sent time k taken-is (ap (λ (z : Change). speaks (z .message)) (sym d-is) ∙ h))
+        (silent-keeps ws fit′ i states senders sent time k taken-is (ap (λ (z : Change). namesChoice (z .message)) (sym d-is) ∙ h))
 
     module _ (row : List Sender) (whole : HeadRecord) (m : Message) (after : State) (vf c own : ℕ) (ko : Sender) (y : Frame) (at : ℕ) (z : Sent)
         (rowe : row ≡ rowOf (set senders p (d .kept)) q) (he : whole ≡ recordWith (g .n) (g .f) (getD states q noState) row)
-        (me : m ≡ saidOf whole d) (ea : after ≡ stateAfter (d .state) m) (vfe : vf ≡ votedFor (getD states q noState .own) m)
+        (me : m ≡ messageOf whole d) (ea : after ≡ stateAfter (d .state) m) (vfe : vf ≡ votedFor (getD states q noState .own) m)
         (ce : c ≡ r .entry .head % 16 * 16 + vf % 16) (oe : own ≡ r .entry .head % 16 * 16 + getD states q noState .own % 16)
         (ke : ko ≡ keepOwn (getD (set senders p (d .kept)) own noSender) m (getD (set senders p (d .kept)) c noSender .start))
         (ye : y ≡ messageFrame (d .state) m (getD (set senders p (d .kept)) c noSender .start))
         (ate : at ≡ placeOfFrame (r .entry .head) y) (ze : z ≡ keptFrame (getD sent at noSent) y i) where
       m-is : m ≡ sending held to does
       m-is =
-          me ∙ ap (λ (z : HeadRecord). saidOf z d) (he ∙ ap (recordWith (g .n) (g .f) (getD states q noState)) rowe)
-          ∙ rw (b-is, q-is, p-is, d-is, is) (said-is ws fit′ i states senders sent time k taken-is)
+          me ∙ ap (λ (z : HeadRecord). messageOf z d) (he ∙ ap (recordWith (g .n) (g .f) (getD states q noState)) rowe)
+          ∙ rw (b-is, q-is, p-is, d-is, is) (message-is ws fit′ i states senders sent time k taken-is)
 
       c-is : c ≡ now .head * 16 + votedFor (held .own) (sending held to does) % 16
       c-is =
@@ -561,10 +562,10 @@ module _ (ws : List ℕ) (g : Setting) (is : g ≡ settingAt ws) (fit : headsFit
       own-is : own ≡ now .head * 16 + held .own % 16
       own-is = oe ∙ ap (λ (h : ℕ). h * 16 + getD states q noState .own % 16) head-is ∙ ap (λ (b : State). now .head * 16 + b .own % 16) b-is
 
-      pub run-spoke : Keeps ws (i + 1) (set (set states q (d .state)) q after) (set (set senders p (d .kept)) own ko) (set sent at z) (r .entry .time .0)
-      run-spoke =
+      pub run-sent : Keeps ws (i + 1) (set (set states q (d .state)) q after) (set (set senders p (d .kept)) own ko) (set sent at z) (r .entry .time .0)
+      run-sent =
           rw (ate, q-is, own-is, p-is, d-is, entry-is)
-          (spoke-keeps ws fit′ i states senders sent time k taken-is after ko y z (ea ∙ ap₂ (λ (z : Change) (s : Message). stateAfter (z .state) s) d-is m-is)
+          (sent-keeps ws fit′ i states senders sent time k taken-is after ko y z (ea ∙ ap₂ (λ (z : Change) (s : Message). stateAfter (z .state) s) d-is m-is)
           (ke ∙ rw (c-is, own-is, p-is, d-is, m-is) refl) (ye ∙ rw (c-is, p-is, d-is, m-is) refl)
           (ze ∙ ap (λ (n : ℕ). keptFrame (getD sent n noSent) y i) (ate ∙ ap (λ (w : Entry). placeOfFrame (w .head) y) entry-is)))
 

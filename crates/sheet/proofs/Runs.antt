@@ -20,10 +20,11 @@ use Rattle.protocol.specs.Words.{hasSerial}
 use Rattle.protocol.specs.Run.{Event, History, recordOf, isDeliveredBy, orElse, frameSent, frameOf, isFrame}
 use Rattle.entries.specs.Entries.{deliveredFrame}
 use Rattle.protocol.proofs.Tests.{absurd-bool, cases, cond-elim, and-left, and-right, or-left, or-right, or-cases, eqb-same}
-use Rattle.protocol.proofs.Effects.{votes, adjusts, number, serialOf, passedOver, prepared, Speech, nothing, voting, adjusting, utter, speechOf}
+use Rattle.protocol.proofs.Effects.{votes, adjusts, number, serialOf, passedOver, prepared, Sending, nothing, voting, adjusting, send, sendingOf}
 use Rattle.protocol.proofs.Valid.{baseOf, Valid, start, more, record-other, by-head, of-effect, frame-fits, started-took}
 use Rattle.sheet.specs.declared.Sent.{Sent}
-use Rattle.sheet.specs.Bench.{table, noSent, actionAt, headAt, serialAt, placeFor, placeOfFrame, keptFrame, sentAt, sentOf}
+use Rattle.sheet.specs.Bench.{table, noSent, actionAt, headAt, serialAt, placeOfFrame, keptFrame, sentAt, sentOf}
+use Rattle.places.specs.Places.{placeFor}
 use Rattle.sheet.proofs.Tables.{is-table, set-table}
 
 -- at first every record is fresh and nothing is sent
@@ -47,29 +48,29 @@ place-fields a p k hp hk = go (eqb a 8)
 -- FRAMES LOOKED UP
 
 -- a start is sent at action 1, and at no other
-start-frame : (r m : HeadRecord) (a : Action) (k : ℕ) → isDeliveredBy 2 k (utter (speechOf r a) m .frame) ≡ eqb (number a) 1
+start-frame : (r m : HeadRecord) (a : Action) (k : ℕ) → isDeliveredBy 2 k (send (sendingOf r a) m .frame) ≡ eqb (number a) 1
 unfolding vote adjust
 start-frame r m Look k = refl
 start-frame r m StartSent k = refl
 start-frame r m (StartDelivered p) k = go (r .adjust .closed) (mayLead _)
   where
-    go : (b o : Bool) → isDeliveredBy 2 k (utter (cond b nothing (cond o (voting (r .own)) nothing)) m .frame) ≡ false
+    go : (b o : Bool) → isDeliveredBy 2 k (send (cond b nothing (cond o (voting (r .own)) nothing)) m .frame) ≡ false
     go true o = refl
     go false true = refl
     go false false = refl
 start-frame r m StartConfirmed k = refl
-start-frame r m VoteTurn k = cond-elim (λ (x : Speech). isDeliveredBy 2 k (utter x m .frame) ≡ false) (mayLead (prepared r VoteTurn)) (λ _. refl) (λ _. refl)
+start-frame r m VoteTurn k = cond-elim (λ (x : Sending). isDeliveredBy 2 k (send x m .frame) ≡ false) (mayLead (prepared r VoteTurn)) (λ _. refl) (λ _. refl)
 start-frame r m (VoteDelivered p j c x) k = go (passedOver votes r p j) (outranks c (r .vote .choice))
   where
-    go : (b o : Bool) → isDeliveredBy 2 k (utter (cond b nothing (cond o (voting c) nothing)) m .frame) ≡ false
+    go : (b o : Bool) → isDeliveredBy 2 k (send (cond b nothing (cond o (voting c) nothing)) m .frame) ≡ false
     go true o = refl
     go false true = refl
     go false false = refl
 start-frame r m VoteClose k = refl
-start-frame r m AdjustTurn k = cond-elim (λ (x : Speech). isDeliveredBy 2 k (utter x m .frame) ≡ false) (mayAdjust (prepared r AdjustTurn)) (λ _. refl) (λ _. refl)
+start-frame r m AdjustTurn k = cond-elim (λ (x : Sending). isDeliveredBy 2 k (send x m .frame) ≡ false) (mayAdjust (prepared r AdjustTurn)) (λ _. refl) (λ _. refl)
 start-frame r m (AdjustDelivered p j c x) k = go (passedOver adjusts r p j) (outranks c (r .adjust .choice))
   where
-    go : (b o : Bool) → isDeliveredBy 2 k (utter (cond b nothing (cond o (adjusting c x) nothing)) m .frame) ≡ false
+    go : (b o : Bool) → isDeliveredBy 2 k (send (cond b nothing (cond o (adjusting c x) nothing)) m .frame) ≡ false
     go true o = refl
     go false true = refl
     go false false = refl

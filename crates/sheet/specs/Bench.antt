@@ -22,6 +22,7 @@ use Rattle.sheet.specs.declared.Read.{Read}
 use Rattle.sheet.specs.declared.Sent.{Sent}
 use Rattle.sheet.specs.declared.Bench.{Bench}
 use Rattle.sheet.specs.declared.Ran.{Ran}
+use Rattle.places.specs.Places.{placeFor}
 
 -- the values of f at the k numbers from i on
 abbrev pub table : {A : Type 0} → (ℕ → A) → ℕ → ℕ → List A
@@ -62,10 +63,6 @@ headAt j = j % 256 / 16
 
 abbrev pub serialAt : ℕ → ℕ
 serialAt j = j % 16
-
--- the place of the vote (action 5) or adjust (action 8) of head p under serial k
-abbrev pub placeFor : ℕ → ℕ → ℕ → ℕ
-placeFor a p k = cond (eqb a 8) 256 0 + p % 16 * 16 + k % 16
 
 -- the place of a frame that head q sends
 abbrev pub placeOfFrame : ℕ → Frame → ℕ

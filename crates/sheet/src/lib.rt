@@ -10,9 +10,9 @@ ghost use mathlib.Core.Bool.{true};
 ghost use lib.ListN.{length};
 ghost use Rattle.protocol.specs.Run.{stopped};
 ghost use Rattle.entries.specs.Entries.{deliveredFrame};
-ghost use Rattle.sheet.specs.Bench.{placeFor, placeOfFrame, keptFrame, readOf, noSetting, answerOf, runFirst};
+ghost use Rattle.sheet.specs.Bench.{placeOfFrame, keptFrame, readOf, noSetting, answerOf, runFirst};
+use actions::counted_message;
 use actions::record_with;
-use actions::said;
 use actions::seat;
 use actions::with_reading;
 use arrays::fresh_records;
@@ -28,6 +28,7 @@ use entries::asked;
 use entries::delivered_frame;
 use entries::entry_verdict;
 use entries::is_frame;
+use places::place_for;
 use protocol::Cause;
 use protocol::Entry;
 use protocol::Frame;
@@ -36,7 +37,7 @@ use protocol::Setting;
 use protocol::Verdict;
 use sending::frame_of;
 use sending::keep_own;
-use sending::speaks;
+use sending::names_choice;
 use sending::state_after;
 use sending::voted_for;
 use sheet_words::entry_fits;
@@ -72,17 +73,6 @@ fn place(q: u8, p: u8) -> usize
     ensures { λ j. ⌜ (j ≡ q % 16 * 16 + p % 16) × (j < 256) ⌝ }
 {
     (q % 16) as usize * 16 + (p % 16) as usize
-}
-
-// The place of the vote (action 5) or adjust (action 8) of head p under serial k.
-fn place_for(a: u8, p: u8, k: u8) -> usize
-    ensures { λ j. ⌜ (j ≡ placeFor a p k) × (j < 512) ⌝ }
-{
-    if a == 8 {
-        256 + (p % 16) as usize * 16 + (k % 16) as usize
-    } else {
-        0 + (p % 16) as usize * 16 + (k % 16) as usize
-    }
 }
 
 // The place of a frame that head q sends.
@@ -154,7 +144,7 @@ fn frame_for(e: Entry, from: State, slot: Sent) -> Frame
 }
 
 // "entry by entry 6 to 9": the run of the first count entries. The steps of an accepted one are those of take_action,
-// on the arrays' elements; most entries say nothing, and end before the last block.
+// on the arrays' elements; most entries send no vote and no adjust, and end before the last block.
 fn run_entries(sheet: &[u32], g: Setting, count: usize) -> Ran
     requires { ⌜ (2 + 3 * count ≤ length (now sheet)) × (headsFit (g .n) (g .f) ≡ true) × (g ≡ settingAt (now sheet)) × (length (now sheet) ≤ 12290) ⌝ }
     ensures { λ r. ⌜ r ≡ answerOf g (runOf (now (sheet .entry)) count) ⌝ }
@@ -184,8 +174,8 @@ fn run_entries(sheet: &[u32], g: Setting, count: usize) -> Ran
                 let state = d.state;
                 states[q] = state;
                 let message = d.message;
-                if speaks(message) {
-                    let s = said(record_with(g.n, g.f, b, row_of(senders, q)), d);
+                if names_choice(message) {
+                    let s = counted_message(record_with(g.n, g.f, b, row_of(senders, q)), d);
                     states[q] = state_after(state, s);
                     let k = senders[place(e.head, voted_for(b.own, s))];
                     let o = place(e.head, b.own);

@@ -11,8 +11,8 @@ use Rattle.reached.proofs.frame_reached.Statement.{statement}
 use Rattle.reached.proofs.frame_reached.Tie as tie
 
 -- src/lib.rt:60:26
-sending-place-requires : tie.Need-sending-place-requires
-sending-place-requires c κs = search needs
+place-for-requires : tie.Need-place-for-requires
+place-for-requires c κs = search needs
 
 -- src/lib.rt:60:8
 index-at-requires : tie.Need-index-at-requires
@@ -38,7 +38,7 @@ has-all-requires c κs = search needs
 returns : tie.Need-returns
 returns c =
     let A = c .before .before .before .before .before .before .before .before .before .args in
-    let at = c .before .before .before .before .before .index-at .ensures ∙ ap (λ (j : ℕ). getD (now (A .sending)) j 0) (c .before .before .before .before .before .before .sending-place .ensures .0) in
+    let at = c .before .before .before .before .before .index-at .ensures ∙ ap (λ (j : ℕ). getD (now (A .sending)) j 0) (c .before .before .before .before .before .before .place-for .ensures .0) in
     let receivers = c .before .before .set-at .ensures ∙ ap (λ (j : ℕ). getD (now (A .received)) j 0) (c .before .before .before .receivers-place .ensures .0) in
     let reached = c .has-all .ensures ∙ ap (λ (m : ℕ). hasAll m (A .g .correct)) (c .before .with-head .ensures ∙ ap (λ (m : ℕ). withHead m (A .p)) receivers) in
     reached ∙ sym (asked _ _ (ap (λ (x : ℕ). ltb x (A .i)) (sym at) ∙ lt-ltb _ _ (c .before .before .before .before .if1 .taken)))
@@ -47,14 +47,14 @@ returns c =
 returns-2 : tie.Need-returns-2
 returns-2 c =
     let A = c .before .before .before .before .before .args in
-    let at = c .before .index-at .ensures ∙ ap (λ (j : ℕ). getD (now (A .sending)) j 0) (c .before .before .sending-place .ensures .0) in
+    let at = c .before .index-at .ensures ∙ ap (λ (j : ℕ). getD (now (A .sending)) j 0) (c .before .before .place-for .ensures .0) in
     sym (unasked _ _ (ap (λ (x : ℕ). ltb x (A .i)) (sym at) ∙ le-ltb _ _ (c .if1 .left)))
 
 pub frame-reached-spec : {M : Type 1} → statement M
 frame-reached-spec =
     tie.close
     (tie.spec
-    sending-place-requires
+    place-for-requires
     index-at-requires
     receivers-place-requires
     set-at-requires

@@ -4,7 +4,7 @@ use Rattle.sheet.proofs.place_of_frame.Statement.{statement}
 use Rattle.sheet.proofs.place_of_frame.Tie as tie
 use Rattle.sheet.proofs.place_of_frame.Reads as reads
 use Rattle.sheet.proofs.place_of_frame.Lts as lts
-use Rattle.sheet.proofs.place_for.Reads as place-for-reads
+use Rattle.places.proofs.place_for.Reads as place-for-reads
 
 -- src/lib.rt:121:27
 enum-told : tie.Need-enum-told

@@ -3,7 +3,7 @@ use mathlib.Core.Logic.{⊎-elim}
 use Prim.Native.Nat.{_-_, _≤_}
 use denote.Ref.{now}
 use lib.ListN.{length, replicate}
-use Rattle.sheet.proofs.Loop.{Keeps, first-keeps, keeps-same, keeps-lengths, heads-few, run-refused, run-quiet, run-spoke, run-ended, run-stopped}
+use Rattle.sheet.proofs.Loop.{Keeps, first-keeps, keeps-same, keeps-lengths, heads-few, run-refused, run-silent, run-sent, run-ended, run-stopped}
 use native.Mathlib.Omega.{arith}
 use borrow.Author.Needs.{needs}
 use Rattle.sheet.proofs.run_entries.Statement.{statement}
@@ -131,8 +131,8 @@ mul-states c = let seat = c .before .before .before .before .before .before .bef
 array-set-from-states : tie.Need-array-set-from-states Inv-loop μ-loop
 array-set-from-states c = let seat = c .before .before .before .before .before .before .before .before .before .before .before .before .before .seat2 .ensures in omega (arith, seat)
 
-speaks-requires : tie.Need-speaks-requires Inv-loop μ-loop
-speaks-requires c κs = search needs
+names-choice-requires : tie.Need-names-choice-requires Inv-loop μ-loop
+names-choice-requires c κs = search needs
 
 row-of-requires : tie.Need-row-of-requires Inv-loop μ-loop
 row-of-requires c κs = let seat = c .before .before .before .before .before .before .before .before .before .before .before .before .before .before .before .seat2 .ensures in omega (arith, seat)
@@ -140,8 +140,8 @@ row-of-requires c κs = let seat = c .before .before .before .before .before .be
 record-with-requires : tie.Need-record-with-requires Inv-loop μ-loop
 record-with-requires c κs = search needs
 
-said-requires : tie.Need-said-requires Inv-loop μ-loop
-said-requires c κs = rw (c .record-with .ensures) (heads-few _ _ (c .before .before .before .before .before .before .before .before .before .before .before .before .before .before .before .before .before .before .before .before .before .before .before .before .before .before .before .before .before .before .before .pre .1))
+counted-message-requires : tie.Need-counted-message-requires Inv-loop μ-loop
+counted-message-requires c κs = rw (c .record-with .ensures) (heads-few _ _ (c .before .before .before .before .before .before .before .before .before .before .before .before .before .before .before .before .before .before .before .before .before .before .before .before .before .before .before .before .before .before .before .pre .1))
 
 state-after-requires : tie.Need-state-after-requires Inv-loop μ-loop
 state-after-requires c κs = search needs
@@ -225,19 +225,19 @@ loop-again c =
     let at = c .before .before .before .before .before .before .before .before .place in
     let state = c .before .before .before .before .before .before .with-reading in
     let change = c .before .before .before .before .act in
-    let spoken = c .before .speaks .ensures in
+    let allowed = c .before .names-choice .ensures in
     let on = ⊎-elim
     (λ w. keeps-same _ _ _ _ _ _ _ _ _ (w .15) (w .16) (w .17)
-    (run-spoke (now (A .sheet)) (A .g) (P .2) (P .1) (L .i) (L .states) (L .senders) (L .sent) (L .time) (L .inv .4) (read .result) (place .result) (from .result) (seat .result) (frame .result) (asks .result) (verdict .result)
+    (run-sent (now (A .sheet)) (A .g) (P .2) (P .1) (L .i) (L .states) (L .senders) (L .sent) (L .time) (L .inv .4) (read .result) (place .result) (from .result) (seat .result) (frame .result) (asks .result) (verdict .result)
     (read .ensures) (place .ensures .0) (from .ensures) (frame .ensures) (seat .ensures) (asks .ensures) (verdict .ensures)
     (c .before .before .before .before .before .before .before .before .before .before .enum-told .given .1) (sender .result) (at .result) (state .result) (change .result) (sender .ensures) (at .ensures .0) (state .ensures) (change .ensures)
     (w .1 .result) (w .2 .result) (w .3 .result) (w .4 .result) (w .5 .result) (w .6 .result) (w .8 .result) (w .10 .result) (w .11 .result) (w .12 .result) (w .14 .result)
     (w .1 .ensures) (w .2 .ensures) (w .3 .ensures) (w .4 .ensures) (w .5 .ensures) (w .6 .ensures .0) (w .8 .ensures .0) (w .10 .ensures) (w .11 .ensures) (w .12 .ensures .0) (w .14 .ensures)))
     (λ w. keeps-same _ _ _ _ _ _ _ _ _ (w .1) (w .2) (w .3)
-    (run-quiet (now (A .sheet)) (A .g) (P .2) (P .1) (L .i) (L .states) (L .senders) (L .sent) (L .time) (L .inv .4) (read .result) (place .result) (from .result) (seat .result) (frame .result) (asks .result) (verdict .result)
+    (run-silent (now (A .sheet)) (A .g) (P .2) (P .1) (L .i) (L .states) (L .senders) (L .sent) (L .time) (L .inv .4) (read .result) (place .result) (from .result) (seat .result) (frame .result) (asks .result) (verdict .result)
     (read .ensures) (place .ensures .0) (from .ensures) (frame .ensures) (seat .ensures) (asks .ensures) (verdict .ensures)
     (c .before .before .before .before .before .before .before .before .before .before .enum-told .given .1) (sender .result) (at .result) (state .result) (change .result) (sender .ensures) (at .ensures .0) (state .ensures) (change .ensures)
-    (sym spoken ∙ w .0 .left)))
+    (sym allowed ∙ w .0 .left)))
     (c .if1 .came) in
     let n = keeps-lengths _ _ _ _ _ _ on in
     (omega (arith, c .before .before .before .before .before .before .before .before .before .before .before .before .before .before .before .before .before .before .before .before .before .before .before .loop-test .taken), n .0, n .1, n .2, on)
@@ -291,10 +291,10 @@ run-entries-spec =
     array-set-from-senders
     mul-states
     array-set-from-states
-    speaks-requires
+    names-choice-requires
     row-of-requires
     record-with-requires
-    said-requires
+    counted-message-requires
     state-after-requires
     mul-states-2
     array-set-from-states-2

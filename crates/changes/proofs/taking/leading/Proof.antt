@@ -6,19 +6,12 @@ use Rattle.changes.proofs.taking.leading.Tie as tie
 waits-requires : tie.Need-waits-requires
 waits-requires c κs = search needs
 
-say-requires : tie.Need-say-requires
-say-requires c κs = search needs
-
-silently-requires : tie.Need-silently-requires
-silently-requires c κs = search needs
+send-if-requires : tie.Need-send-if-requires
+send-if-requires c κs = search needs
 
 returns : tie.Need-returns
 unfolding leading
-returns c = simp (c .say .ensures, c .before .if1 .taken, ← c .before .before .waits .ensures)
-
-returns-2 : tie.Need-returns-2
-unfolding leading
-returns-2 c = simp (c .silently .ensures, c .before .if1 .left, ← c .before .before .waits .ensures)
+returns c = simp (c .send-if .ensures, c .before .waits .ensures)
 
 pub leading-spec : {M : Type 1} → statement M
-leading-spec = tie.close (tie.spec waits-requires say-requires silently-requires returns returns-2)
+leading-spec = tie.close (tie.spec waits-requires send-if-requires returns)

@@ -3,12 +3,12 @@ use borrow.Author.Needs.{needs}
 use Rattle.changes.proofs.taking.start_delivered.Statement.{statement}
 use Rattle.changes.proofs.taking.start_delivered.Tie as tie
 
-silently-requires : tie.Need-silently-requires
-silently-requires c κs = search needs
+send-nothing-requires : tie.Need-send-nothing-requires
+send-nothing-requires c κs = search needs
 
 returns : tie.Need-returns
 unfolding startDelivered
-returns c = simp (c .silently .ensures, c .before .if1 .taken)
+returns c = simp (c .send-nothing .ensures, c .before .if1 .taken)
 
 with-start-requires : tie.Need-with-start-requires
 with-start-requires c κs = search needs
@@ -22,4 +22,4 @@ returns-2 c = simp (c .leading .ensures, c .before .with-start .ensures, c .befo
 
 pub start-delivered-spec : {M : Type 1} → statement M
 start-delivered-spec =
-    tie.close (tie.spec silently-requires returns with-start-requires leading-requires returns-2)
+    tie.close (tie.spec send-nothing-requires returns with-start-requires leading-requires returns-2)

@@ -1,56 +1,42 @@
 use borrow.Author.Tests.{eq-eqb, ne-eqb}
 use native.Mathlib.Omega.{arith}
 use borrow.Author.Needs.{needs}
-use Rattle.sheet.proofs.place_for.Statement.{statement}
-use Rattle.sheet.proofs.place_for.Tie as tie
-use Rattle.sheet.proofs.place_for.Reads as reads
-use Rattle.sheet.proofs.place_for.Lts as lts
+use Rattle.places.proofs.place_for.Statement.{statement}
+use Rattle.places.proofs.place_for.Tie as tie
 
--- src/lib.rt:113:15
 cast-result : tie.Need-cast-result
 cast-result c = search needs
 
--- src/lib.rt:113:15
 mul-result : tie.Need-mul-result
 mul-result c = search needs
 
--- src/lib.rt:113:9
 add-result : tie.Need-add-result
 add-result c = search needs
 
--- src/lib.rt:113:40
 cast-result-2 : tie.Need-cast-result-2
 cast-result-2 c = search needs
 
--- src/lib.rt:113:9
 add-result-2 : tie.Need-add-result-2
 add-result-2 c = search needs
 
--- src/lib.rt:115:13
 cast-result-3 : tie.Need-cast-result-3
 cast-result-3 c = search needs
 
--- src/lib.rt:115:13
 mul-result-2 : tie.Need-mul-result-2
 mul-result-2 c = search needs
 
--- src/lib.rt:115:9
 add-result-3 : tie.Need-add-result-3
 add-result-3 c = search needs
 
--- src/lib.rt:115:38
 cast-result-4 : tie.Need-cast-result-4
 cast-result-4 c = search needs
 
--- src/lib.rt:115:9
 add-result-4 : tie.Need-add-result-4
 add-result-4 c = search needs
 
--- src/lib.rt:109:1
 returns : tie.Need-returns
 returns c = (simp (eq-eqb _ _ (c .if1 .taken)), omega arith)
 
--- src/lib.rt:109:1
 returns-2 : tie.Need-returns-2
 returns-2 c = (simp (ne-eqb _ _ (c .if1 .left)), omega arith)
 

@@ -1,6 +1,6 @@
 use borrow.Author.Needs.{needs}
-use Rattle.actions.proofs.count.said.Statement.{statement}
-use Rattle.actions.proofs.count.said.Tie as tie
+use Rattle.actions.proofs.count.counted_message.Statement.{statement}
+use Rattle.actions.proofs.count.counted_message.Tie as tie
 
 count-first-requires : tie.Need-count-first-requires
 count-first-requires c κs = search needs
@@ -11,5 +11,5 @@ returns c = simp (c .count-first .ensures, c .before .if1 .taken)
 returns-2 : tie.Need-returns-2
 returns-2 c = simp (c .if1 .left)
 
-pub said-spec : {M : Type 1} → statement M
-said-spec = tie.close (tie.spec count-first-requires returns returns-2)
+pub counted-message-spec : {M : Type 1} → statement M
+counted-message-spec = tie.close (tie.spec count-first-requires returns returns-2)

@@ -1,0 +1,2 @@
+-- Where what concerns one vote or adjust is kept.
+pub mod Places
