@@ -1,13 +1,22 @@
 #!/bin/sh
-# Builds the static library, compiles the C examples against it, and compares what they print. Prints "ok" at the end.
+# Builds the static libraries, compiles the C examples against them, and compares what they print. Prints "ok" at the end.
 set -eu
 cd "$(dirname "$0")/.."
-rt staticlib board
 out=target/examples
 mkdir -p "$out"
-for name in two_boards edges; do
-    "${CC:-cc}" -std=c99 -O2 -Wall -Wextra -pedantic -Werror -Iinclude "examples/$name.c" target/staticlib/libboard.a -o "$out/$name"
-    "$out/$name" >"$out/$name.out"
-    diff "examples/$name.expected" "$out/$name.out"
-done
+
+# try LIBRARY EXAMPLE..
+try() {
+    library=$1
+    shift
+    rt staticlib "$library"
+    for name in "$@"; do
+        "${CC:-cc}" -std=c99 -O2 -Wall -Wextra -pedantic -Werror -Iinclude "examples/$name.c" "target/staticlib/lib$library.a" -o "$out/$name"
+        "$out/$name" >"$out/$name.out"
+        diff "examples/$name.expected" "$out/$name.out"
+    done
+}
+
+try board two_boards edges
+try sheets one_sheet
 echo ok

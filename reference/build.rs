@@ -1,11 +1,19 @@
-//! Links the proved static library for the program `actions`, where the feature
-//! `board` asks for it; BOARD_LIB names the folder of libboard.a.
+//! Links the proved static libraries for the programs that ask for one by a
+//! feature: BOARD_LIB and SHEETS_LIB name the folders of libboard.a and
+//! libsheets.a.
+
+fn link(feature: &str, variable: &str, library: &str) {
+    println!("cargo:rerun-if-env-changed={variable}");
+    if std::env::var_os(feature).is_some() {
+        let folder = std::env::var(variable)
+            .unwrap_or_else(|_| panic!("{variable} names the folder of lib{library}.a"));
+        println!("cargo:rerun-if-changed={folder}/lib{library}.a");
+        println!("cargo:rustc-link-search=native={folder}");
+        println!("cargo:rustc-link-lib=static={library}");
+    }
+}
 
 fn main() {
-    println!("cargo:rerun-if-env-changed=BOARD_LIB");
-    if std::env::var_os("CARGO_FEATURE_BOARD").is_some() {
-        let folder = std::env::var("BOARD_LIB").expect("BOARD_LIB names the folder of libboard.a");
-        println!("cargo:rustc-link-search=native={folder}");
-        println!("cargo:rustc-link-lib=static=board");
-    }
+    link("CARGO_FEATURE_BOARD", "BOARD_LIB", "board");
+    link("CARGO_FEATURE_SHEETS", "SHEETS_LIB", "sheets");
 }

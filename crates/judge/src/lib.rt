@@ -9,10 +9,14 @@ use premises::took_all;
 use protocol::Judged;
 use protocol::Replayed;
 use protocol::Verdict;
+use sheet::Ran;
 use words::setting_of;
 ghost use mathlib.Core.Path.{_≡_};
+ghost use lib.ListN.{length};
 ghost use Rattle.protocol.specs.Premises.{judge};
 ghost use Rattle.protocol.specs.Results.{replay};
+ghost use Rattle.protocol.specs.Words.{settingAt};
+ghost use Rattle.sheet.specs.Bench.{answerOf, runFirst};
 ghost use Rattle.judge.specs.Claims.{Agrees, AgreesInWords};
 
 // A replay's answer and the judge's, of the same sheet.
@@ -21,12 +25,11 @@ pub struct Report {
     pub judged: Judged,
 }
 
-// "The judge, which has no result buffer, tests the same without 5": the first broken premise, or the refusal. Of a sheet that
-// keeps all premises the third point holds.
-pub fn judge(sheet: &[u32]) -> Judged
+// The judge's answer of a sheet whose run is known.
+fn judge_of(sheet: &[u32], ran: Ran) -> Judged
+    requires { ⌜ ran ≡ answerOf (settingAt (now sheet)) (runFirst (now sheet) (length (now sheet))) ⌝ }
     ensures { λ j. ⌜ (j ≡ judge (now (sheet .entry))) × Agrees (now (sheet .entry)) j ⌝ }
 {
-    let ran = sheet::run(sheet, sheet.len());
     let v = ran.verdict;
     match v {
         Verdict::Refused(c) => Judged::Unjudged(c, ran.place),
@@ -54,12 +57,22 @@ pub fn judge(sheet: &[u32]) -> Judged
     }
 }
 
-// Replays a sheet into a lent buffer, and judges it. Of a sheet that keeps all premises the third point holds of the words
-// that are left in the buffer, unless cause 5 turned the replay back.
+// "The judge, which has no result buffer, tests the same without 5": the first broken premise, or the refusal. Of a sheet that
+// keeps all premises the third point holds.
+pub fn judge(sheet: &[u32]) -> Judged
+    ensures { λ j. ⌜ (j ≡ judge (now (sheet .entry))) × Agrees (now (sheet .entry)) j ⌝ }
+{
+    let ran = sheet::run(sheet, sheet.len());
+    judge_of(sheet, ran)
+}
+
+// Replays a sheet into a lent buffer, and judges it, both by one run. Of a sheet that keeps all premises the third point
+// holds of the words that are left in the buffer, unless cause 5 turned the replay back.
 pub fn replay_and_judge(sheet: &[u32], out: &mut [u32]) -> Report
     ensures { λ r. ⌜ (r .replayed ≡ replay (now (sheet .entry)) (now (out .entry)) .answer) × (r .judged ≡ judge (now (sheet .entry))) × (now (out .exit) ≡ replay (now (sheet .entry)) (now (out .entry)) .buffer) × AgreesInWords (now (sheet .entry)) r (now (out .exit)) ⌝ }
 {
-    let replayed = results::replay(sheet, out);
-    let judged = judge(sheet);
+    let ran = sheet::run(sheet, sheet.len());
+    let replayed = results::replay_of(sheet, ran, out);
+    let judged = judge_of(sheet, ran);
     Report { replayed, judged }
 }

@@ -4,11 +4,14 @@ ghost use mathlib.Core.List.{_++_};
 ghost use Prim.Native.Nat.{_+_, _*_, _^_, _≤_, _<_};
 ghost use lib.ListN.{length, drop};
 ghost use Rattle.protocol.specs.Results.{outcomeWord, adjustmentWord, startWord, wordsFrom, replay};
+ghost use Rattle.protocol.specs.Words.{settingAt};
+ghost use Rattle.sheet.specs.Bench.{answerOf, runFirst};
 ghost use Rattle.results.specs.Written.{Writable, AllWritable, recordAt};
 use protocol::Cause;
 use protocol::HeadRecord;
 use protocol::Replayed;
 use protocol::Verdict;
+use sheet::Ran;
 use values::number_or_0;
 use values::reading_or_0;
 
@@ -75,8 +78,9 @@ fn write_words(out: &mut [u32], records: [HeadRecord; 16], n: u8)
     }
 }
 
-// "Sheet order: 1 to 5, then entry by entry 6 to 9"
-pub fn replay(sheet: &[u32], out: &mut [u32]) -> Replayed
+// "Sheet order: 1 to 5, then entry by entry 6 to 9": the replay of a sheet whose run is known.
+pub fn replay_of(sheet: &[u32], ran: Ran, out: &mut [u32]) -> Replayed
+    requires { ⌜ ran ≡ answerOf (settingAt (now sheet)) (runFirst (now sheet) (length (now sheet))) ⌝ }
     ensures { λ r. ⌜ (r ≡ replay (now (sheet .entry)) (now (out .entry)) .answer) × (now (out .exit) ≡ replay (now (sheet .entry)) (now (out .entry)) .buffer) ⌝ }
 {
     let v = sheet_words::sheet_verdict(sheet);
@@ -87,7 +91,6 @@ pub fn replay(sheet: &[u32], out: &mut [u32]) -> Replayed
             if out.len() < 3 * g.n as usize {
                 return Replayed::TurnedBack(Cause::ShortBuffer, 0);
             }
-            let ran = sheet::run(sheet, sheet.len());
             let w = ran.verdict;
             match w {
                 Verdict::Refused(c) => Replayed::TurnedBack(c, ran.place),
@@ -100,4 +103,11 @@ pub fn replay(sheet: &[u32], out: &mut [u32]) -> Replayed
             }
         }
     }
+}
+
+pub fn replay(sheet: &[u32], out: &mut [u32]) -> Replayed
+    ensures { λ r. ⌜ (r ≡ replay (now (sheet .entry)) (now (out .entry)) .answer) × (now (out .exit) ≡ replay (now (sheet .entry)) (now (out .entry)) .buffer) ⌝ }
+{
+    let ran = sheet::run(sheet, sheet.len());
+    replay_of(sheet, ran, out)
 }

@@ -7,29 +7,28 @@ use borrow.Author.Needs.{needs}
 use Rattle.judge.proofs.replay_and_judge.Statement.{statement}
 use Rattle.judge.proofs.replay_and_judge.Tie as tie
 
--- src/lib.rt:62:9
-replay-requires : tie.Need-replay-requires
-replay-requires c κs = search needs
+run-requires : tie.Need-run-requires
+run-requires c κs = search needs
 
--- src/lib.rt:63:9
-judge-requires : tie.Need-judge-requires
-judge-requires c κs = search needs
+replay-of-requires : tie.Need-replay-of-requires
+replay-of-requires c κs = c .before .run .ensures
 
--- src/lib.rt:59:1
+judge-of-requires : tie.Need-judge-of-requires
+judge-of-requires c κs = c .before .before .before .before .run .ensures
+
 same-length : tie.Need-same-length
 same-length c = search needs
 
--- src/lib.rt:59:1
 returns : tie.Need-returns
 returns c =
-    let A = c .before .before .before .before .before .before .before .args in
-    let R = c .before .before .before .replay in
-    let r : Report = record { replayed = R .result; judged = c .judge .result } in (
+    let A = c .before .before .before .before .before .before .before .before .args in
+    let R = c .before .before .before .replay-of in
+    let r : Report = record { replayed = R .result; judged = c .judge-of .result } in (
       R .ensures .0,
-      c .judge .ensures .0,
+      c .judge-of .ensures .0,
       R .ensures .1,
-      subst (AgreesInWords (now (A .sheet)) r) (sym (R .ensures .1)) (claim-in-words (now (A .sheet)) (now (A .out)) r (R .ensures .0) (c .judge .ensures .1)),
+      subst (AgreesInWords (now (A .sheet)) r) (sym (R .ensures .1)) (claim-in-words (now (A .sheet)) (now (A .out)) r (R .ensures .0) (c .judge-of .ensures .1)),
     )
 
 pub replay-and-judge-spec : {M : Type 1} → statement M
-replay-and-judge-spec = tie.close (tie.spec replay-requires judge-requires same-length returns)
+replay-and-judge-spec = tie.close (tie.spec run-requires replay-of-requires judge-of-requires same-length returns)

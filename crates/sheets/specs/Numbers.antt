@@ -1,0 +1,32 @@
+-- What a program written in C gets for a sheet, in numbers.
+use mathlib.Core.Path.{_≡_}
+use mathlib.Core.List.{List, _++_}
+use Prim.Native.Nat.{ℕ, _+_}
+use lib.ListN.{getD}
+use Rattle.protocol.specs.declared.Replayed.{Replayed}
+use Rattle.protocol.specs.declared.Replayed.the-variants.{Filled}
+use Rattle.protocol.specs.declared.Judged.{Judged}
+use Rattle.protocol.specs.declared.Judged.the-variants.{Kept, Broken, Unjudged}
+use Rattle.protocol.specs.Causes.{causeNumber}
+use Rattle.protocol.specs.Results.{replayedNumbers}
+use Rattle.protocol.specs.Premises.{judgedNumbers}
+use Rattle.judge.specs.Claims.{AgreesInWords}
+
+-- the replay's cause and place, the judge's, and the first broken premise; each 0 where there is none
+abbrev pub answerNumbers : Replayed → Judged → List ℕ
+answerNumbers r j = replayedNumbers r ++ judgedNumbers j
+
+-- a place stands behind its cause
+abbrev pub placeIn : List ℕ → ℕ
+placeIn l = getD l 1 0
+
+-- the judge's answer in one number: 0 for kept, the first broken premise, or 16 more than the cause
+abbrev pub judgedNumber : Judged → ℕ
+judgedNumber Kept = 0
+judgedNumber (Broken i) = i
+judgedNumber (Unjudged c p) = 16 + causeNumber c
+
+-- the third point of the words in the buffer, where the judge's number and the replay's cause are 0
+abbrev pub AgreesInNumbers : List ℕ → ℕ → List ℕ → List ℕ → Type 0
+AgreesInNumbers ws k answer out =
+    k ≡ 0 → _≡_ {A = ℕ} (getD answer 0 0) 0 → AgreesInWords ws (record { replayed = Filled; judged = Kept }) out

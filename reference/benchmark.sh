@@ -1,0 +1,43 @@
+#!/bin/sh
+# Replay and judge of one sheet, by the proved static library and by the fast form of the reference, both built for release
+# and called by one program on the same words. Prints time and instructions of one call and their ratios; the reference is
+# measured with overflow checks (as it is tested) and without.
+set -eu
+cd "$(dirname "$0")/.."
+work=$(mktemp -d)
+trap 'rm -rf "$work"' EXIT
+rt staticlib sheets >"$work/log" 2>&1 || { cat "$work/log" >&2; exit 1; }
+cd reference
+export SHEETS_LIB=../target/staticlib
+for profile in release speed; do
+    cargo build --quiet --offline --profile "$profile" --features sheets --bin benchmark
+done
+
+# all PROFILE SHEET FORM CALLS: the instructions of a run of the program
+all() {
+    valgrind --tool=callgrind --callgrind-out-file="$work/out" "target/$1/benchmark" "$2" "$3" "$4" 2>&1 | sed -n 's/.*Collected : //p'
+}
+
+# instructions PROFILE SHEET FORM: those of one call; a difference, so that start-up is not in it
+instructions() {
+    few=$(all "$1" "$2" "$3" 1)
+    many=$(all "$1" "$2" "$3" 11)
+    echo $(((many - few) / 10))
+}
+
+# table TITLE FILE: from lines of profile, sheet, proved and reference
+table() {
+    echo "| $1 | Overflow checks in the reference | Proved | Reference | Ratio |"
+    echo "|---|---|---|---|---|"
+    awk '{ printf "| %s | %s | %d | %d | %.1f |\n", $2, $1 == "release" ? "on" : "off", $3, $4, $3 / $4 }' "$2"
+}
+
+for profile in release speed; do
+    "target/$profile/benchmark" | sed "s/^/$profile /" >>"$work/time"
+    for sheet in m1 full starts; do
+        echo "$profile $sheet $(instructions $profile $sheet proved) $(instructions $profile $sheet reference)" >>"$work/count"
+    done
+done
+table Nanoseconds "$work/time"
+echo
+table Instructions "$work/count"

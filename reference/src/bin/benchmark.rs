@@ -1,0 +1,195 @@
+//! Replay and judge by the proved static library and by the fast form here, on
+//! the same words. `benchmark` prints for each sheet the time of one call in
+//! nanoseconds, the median of several runs: sheet, proved, reference. `benchmark
+//! SHEET FORM CALLS` only makes the calls, for a count of instructions.
+
+use reference::fast;
+use reference::program::read_words;
+use reference::results::HeadResult;
+use std::hint::black_box;
+use std::time::Instant;
+
+extern "C" {
+    fn daisarnica_replay_and_judge(
+        sheet: *const u32,
+        words: usize,
+        out: *mut u32,
+        out_words: usize,
+        answer: *mut [u32; 5],
+    ) -> u32;
+}
+
+const HEADS: u32 = 16;
+const ENTRIES: usize = 4096;
+const RESULT_WORDS: usize = 48;
+const RUNS: usize = 301;
+/// The length of one run: so short that other programs seldom interrupt it.
+const RUN_NANOSECONDS: u128 = 1_000_000;
+
+/// A sheet of sixteen correct heads, written entry by entry.
+struct Writer {
+    words: Vec<u32>,
+    time: u32,
+}
+
+impl Writer {
+    fn new() -> Writer {
+        // f is 7, the drift 100 parts per million, the tightness 10,000 microseconds.
+        let first = 1 << 28 | HEADS << 20 | 7 << 16 | 0xFFFF;
+        let second = 2 << 28 | 100 << 16 | 10_000;
+        Writer {
+            words: vec![first, second],
+            time: 0,
+        }
+    }
+
+    fn put(&mut self, action: u32, head: u32, sender: u32, serial: u32) {
+        self.time += 1;
+        let reading = self.time + 50 * head;
+        self.words.extend([
+            3 << 28 | self.time,
+            4 << 28 | reading,
+            5 << 28 | action << 24 | head << 20 | sender << 16 | serial << 12,
+        ]);
+    }
+
+    fn each_head(&mut self, action: u32) {
+        (0..HEADS).for_each(|head| self.put(action, head, 0, 0));
+    }
+
+    /// The frames of the senders from the first on, each to all other heads.
+    fn deliver(&mut self, action: u32, first: u32, serial: u32) {
+        for sender in first..HEADS {
+            for head in (0..HEADS).filter(|&head| head != sender) {
+                self.put(action, head, sender, serial);
+            }
+        }
+    }
+
+    /// Looks and repeated deliveries in turn, or looks alone (action 0).
+    fn fill(&mut self, action: u32, entries: usize) {
+        for i in 0..entries as u32 {
+            let head = i / 2 % HEADS;
+            if i % 2 == 0 || action == 0 {
+                self.put(0, head, 0, 0);
+            } else {
+                self.put(action, head, (head + 1) % HEADS, 0);
+            }
+        }
+    }
+}
+
+/// One whole round that keeps all premises, filled up to 4,096 entries. Each
+/// start is delivered so often to each head.
+fn round(starts: u32, votes: u32, adjusts: u32) -> Vec<u32> {
+    let fixed = 7 * HEADS + starts * HEADS * HEADS + 2 * (HEADS + HEADS - 1) * (HEADS - 1);
+    let filled = ENTRIES - fixed as usize;
+    let mut sheet = Writer::new();
+    sheet.each_head(1);
+    for _ in 0..starts {
+        for sender in 0..HEADS {
+            (0..HEADS).for_each(|head| sheet.put(2, head, sender, 0));
+        }
+    }
+    sheet.each_head(3);
+    sheet.each_head(4);
+    // Each head votes for itself, and then for head 0; so do the adjusts.
+    sheet.deliver(5, 0, 0);
+    sheet.deliver(5, 1, 1);
+    sheet.fill(votes, filled / 2);
+    sheet.each_head(6);
+    sheet.each_head(7);
+    sheet.deliver(8, 0, 0);
+    sheet.deliver(8, 1, 1);
+    sheet.fill(adjusts, filled - filled / 2);
+    sheet.each_head(9);
+    sheet.each_head(0);
+    sheet.words
+}
+
+fn sheets() -> [(&'static str, Vec<u32>); 3] {
+    let m1 = read_words(include_bytes!("../../../samples/m1.sheet")).expect("M1 has whole words");
+    [
+        ("m1", m1),
+        ("full", round(1, 5, 8)),
+        ("starts", round(11, 0, 0)),
+    ]
+}
+
+fn proved(words: &[u32], out: &mut [u32; RESULT_WORDS]) -> (u32, [u32; 5]) {
+    let mut answer = [0; 5];
+    let (sheet, buffer) = (words.as_ptr(), out.as_mut_ptr());
+    let judged = unsafe {
+        daisarnica_replay_and_judge(sheet, words.len(), buffer, RESULT_WORDS, &mut answer)
+    };
+    (judged, answer)
+}
+
+/// That both forms give the same answer, and that all premises are kept.
+fn compare(name: &str, words: &[u32]) {
+    let mut out = [0; RESULT_WORDS];
+    let answer = proved(words, &mut out);
+    let (results, premise) = fast::answer(words, Some(RESULT_WORDS)).expect("an accepted sheet");
+    let shown: Vec<_> = out
+        .chunks(3)
+        .take(results.len())
+        .map(HeadResult::read)
+        .collect();
+    assert_eq!(answer, (premise, [0, 0, 0, 0, premise]), "{name}");
+    assert_eq!(premise, 0, "{name}");
+    assert_eq!(shown, results, "{name}");
+}
+
+fn call(form: &str, words: &[u32], calls: u128) {
+    let mut out = [0; RESULT_WORDS];
+    for _ in 0..calls {
+        if form == "proved" {
+            black_box(proved(black_box(words), &mut out));
+        } else {
+            let _ = black_box(fast::answer(black_box(words), Some(RESULT_WORDS)));
+        }
+        black_box(&out);
+    }
+}
+
+fn nanoseconds(form: &str, words: &[u32], calls: u128) -> u128 {
+    let start = Instant::now();
+    call(form, words, calls);
+    start.elapsed().as_nanos()
+}
+
+/// The median time of one call, of both forms by turns.
+fn measure(words: &[u32]) -> [u128; 2] {
+    let forms = ["proved", "reference"];
+    let calls = forms.map(|form| 1 + RUN_NANOSECONDS * 10 / nanoseconds(form, words, 10).max(1));
+    let mut times = [[0; 2]; RUNS];
+    for run in &mut times {
+        for (i, form) in forms.iter().enumerate() {
+            run[i] = nanoseconds(form, words, calls[i]) / calls[i];
+        }
+    }
+    [0, 1].map(|i| {
+        let mut list = times.map(|run| run[i]);
+        list.sort_unstable();
+        list[RUNS / 2]
+    })
+}
+
+fn main() {
+    let arguments: Vec<String> = std::env::args().skip(1).collect();
+    let sheets = sheets();
+    match arguments.as_slice() {
+        [] => {
+            for (name, words) in &sheets {
+                compare(name, words);
+                let [proved, reference] = measure(words);
+                println!("{name} {proved} {reference}");
+            }
+        }
+        [name, form, calls] => {
+            let (_, words) = sheets.iter().find(|s| s.0 == name).expect("a sheet's name");
+            call(form, words, calls.parse().expect("a number of calls"));
+        }
+        _ => panic!("usage: benchmark [SHEET FORM CALLS]"),
+    }
+}
