@@ -7,7 +7,6 @@ use Rattle.protocol.specs.declared.OptReading.{OptReading}
 use Rattle.protocol.specs.declared.OptReading.the-variants.{SomeReading}
 use Rattle.protocol.specs.declared.Sender.{Sender}
 use Rattle.protocol.specs.declared.Phase.{Phase}
-use Rattle.protocol.specs.declared.Frame.the-variants.{Start, Vote, Adjust}
 use Rattle.protocol.specs.declared.Action.{Action}
 use Rattle.protocol.specs.declared.Action.the-variants.{Look, StartSent, StartDelivered, StartConfirmed, VoteTurn, VoteDelivered, VoteClose, AdjustTurn, AdjustDelivered, AdjustClose}
 use Rattle.protocol.specs.Record.{isNumber, reading}

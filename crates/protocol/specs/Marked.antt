@@ -39,7 +39,8 @@ clockAfter g e (ran h) = signed (correctedClock (recordOf g h (e .head)) (e .rea
 unfoldable pub lookAt : List ℕ → ℕ → List ℕ
 lookAt ws i = clockAfter (settingAt ws) (entryAt ws i) (runSheet ws)
 
--- "The looks show 4000 and 3997", and M1's printed lines, in ASCII
+-- in ASCII: "The looks show 4000 and 3997"; and the lines that the program prints for M1, `0 2 0 0 1260 1260 0`,
+-- `1 2 0 0 1260 1313 -53` and `premises 0`
 abbrev pub m1Looks : List ℕ
 m1Looks = 52 ∷ 48 ∷ 48 ∷ 48 ∷ 51 ∷ 57 ∷ 57 ∷ 55 ∷ []
 
@@ -49,7 +50,8 @@ m1Lines =
     ∷ 49 ∷ 32 ∷ 50 ∷ 32 ∷ 48 ∷ 32 ∷ 48 ∷ 32 ∷ 49 ∷ 50 ∷ 54 ∷ 48 ∷ 32 ∷ 49 ∷ 51 ∷ 49 ∷ 51 ∷ 32 ∷ 45 ∷ 53 ∷ 51 ∷ 10
     ∷ 112 ∷ 114 ∷ 101 ∷ 109 ∷ 105 ∷ 115 ∷ 101 ∷ 115 ∷ 32 ∷ 48 ∷ 10 ∷ []
 
--- what the definitions give, and what document 01 says
+-- what the definitions give, and what document 01 says. An answer's numbers are its cause, its place and, of the judge,
+-- the premise, of a counter the reading; 0 for none
 pub record Case : Type 0 where
   pub found : List ℕ
   pub expected : List ℕ

@@ -1,11 +1,9 @@
 -- What a run's answer says of the run.
-use mathlib.Core.Path.{_≡_, refl, sym, _∙_, ap, subst}
-use mathlib.Core.Bool.{Bool, true, false}
+use mathlib.Core.Path.{_≡_, refl, sym, _∙_, ap}
 use mathlib.Core.List.{List}
-use Prim.Native.Nat.{ℕ, suc, _+_, _*_, _%_, _≤_, _<_}
+use Prim.Native.Nat.{ℕ, _+_, _%_, _≤_, _<_}
 use native.Mathlib.Omega.{arith}
-use lib.Dec.{ltb}
-use lib.ListN.{length, getD}
+use lib.ListN.{getD}
 use borrow.Author.Tests.{lt-ltb, le-ltb}
 use Rattle.protocol.specs.declared.HeadRecord.{HeadRecord}
 use Rattle.protocol.specs.declared.Entry.{Entry}
@@ -20,7 +18,6 @@ use Rattle.sheet.specs.declared.Ran.{Ran}
 use Rattle.sheet.specs.Bench.{table, noRecord, benchOf, answerOf, runFirst}
 use Rattle.sheet.proofs.Tables.{table-at}
 use Rattle.tracing.specs.declared.Line.{Line}
-use Rattle.tracing.specs.declared.Traced.{Traced}
 use Rattle.tracing.specs.declared.Traced.the-variants.{After, RefusedAt, Ended}
 use Rattle.tracing.specs.Trace.{lineOf, tracedAfter, traced}
 

@@ -3,16 +3,12 @@ use Prim.Native.Nat.{ℕ, _-_, _≤_, _<_}
 use lib.ListN.{length, getD, length-set}
 use lib.Seq.{getD-set-same, getD-set-other}
 use borrow.Author.Count.{below-more}
-use denote.Ref.{now}
 use Rattle.protocol.specs.Program.{bigEndian}
 use Rattle.big_endian.proofs.Words.{whole-words}
 use native.Mathlib.Omega.{arith}
 use borrow.Author.Needs.{needs}
 use Rattle.big_endian.proofs.words_of.Statement.{statement}
 use Rattle.big_endian.proofs.words_of.Tie as tie
-use Rattle.big_endian.proofs.words_of.Reads as reads
-use Rattle.big_endian.proofs.words_of.Lts as lts
-use Rattle.big_endian.proofs.word_at.Reads as word-at-reads
 
 abbrev Inv-loop : tie.InvT-loop
 Inv-loop bytes words₀ i₀ words i = (i ≤ 12290) × (length words ≡ 12290) × ((k : ℕ) → k < i → getD words k 0 ≡ getD (bigEndian bytes) k 0)
@@ -20,31 +16,24 @@ Inv-loop bytes words₀ i₀ words i = (i ≤ 12290) × (length words ≡ 12290)
 abbrev μ-loop : tie.MeasureT-loop
 μ-loop bytes words₀ i₀ words i = 12290 - i
 
--- src/lib.rt:36:5
 loop-holds : tie.Need-loop-holds Inv-loop μ-loop
 loop-holds c = (search needs, refl, λ k lt. absurd (omega arith))
 
--- src/lib.rt:37:20
 word-at-requires : tie.Need-word-at-requires Inv-loop μ-loop
 word-at-requires c κs = search needs
 
--- src/lib.rt:37:9
 mul-words : tie.Need-mul-words Inv-loop μ-loop
 mul-words c = search needs
 
--- src/lib.rt:37:9
 array-write-words : tie.Need-array-write-words Inv-loop μ-loop
 array-write-words c = search needs
 
--- src/lib.rt:38:9
 add-i : tie.Need-add-i Inv-loop μ-loop
 add-i c = search needs
 
--- src/lib.rt:36:5
 loop-less : tie.Need-loop-less Inv-loop μ-loop
 loop-less c = search needs
 
--- src/lib.rt:36:5
 loop-again : tie.Need-loop-again Inv-loop μ-loop
 loop-again c =
     let l = c .before .before .loop .words in
@@ -53,7 +42,6 @@ loop-again c =
     let inv = c .before .before .loop .inv in
     (omega arith, simp length-set (inv .1), below-more _ i (λ k lt. getD-set-other l i k w 0 (λ q. omega arith) ∙ inv .2 k lt) (getD-set-same l i w 0 (omega (arith, inv .1)) ∙ c .word-at .ensures))
 
--- src/lib.rt:30:1
 returns : tie.Need-returns Inv-loop μ-loop
 returns c =
     let inv = c .before .loop .inv in

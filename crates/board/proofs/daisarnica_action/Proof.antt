@@ -5,27 +5,21 @@ use borrow.Author.Needs.{needs}
 use Rattle.board.proofs.daisarnica_action.Statement.{statement}
 use Rattle.board.proofs.daisarnica_action.Tie as tie
 
--- src/exports.rt:41:29
 input-in-requires : tie.Need-input-in-requires
 input-in-requires c κs = search needs
 
--- src/exports.rt:41:9
 rows-step-requires : tie.Need-rows-step-requires
 rows-step-requires c κs = search needs
 
--- src/exports.rt:44:13
 rows-after-requires : tie.Need-rows-after-requires
 rows-after-requires c κs = search needs
 
--- src/exports.rt:45:14
 frame-numbers-requires : tie.Need-frame-numbers-requires
 frame-numbers-requires c κs = search needs
 
--- src/exports.rt:46:5
 verdict-number-requires : tie.Need-verdict-number-requires
 verdict-number-requires c κs = search needs
 
--- src/exports.rt:34:1
 returns : tie.Need-returns
 returns c =
     let step = c .before .before .before .rows-step .ensures ∙ ap (rowsStep _) (c .before .before .before .before .input-in .ensures) in (

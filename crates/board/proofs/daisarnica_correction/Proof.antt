@@ -3,33 +3,26 @@ use borrow.Author.Needs.{needs}
 use Rattle.board.proofs.daisarnica_correction.Statement.{statement}
 use Rattle.board.proofs.daisarnica_correction.Tie as tie
 
--- src/exports.rt:75:9
 rows-verdict-requires : tie.Need-rows-verdict-requires
 rows-verdict-requires c κs = search needs
 
--- src/exports.rt:77:44
 enum-told : tie.Need-enum-told
 enum-told c = search needs
 
--- src/exports.rt:77:44
 record-in-requires : tie.Need-record-in-requires
 record-in-requires c κs = search needs
 
--- src/exports.rt:77:30
 correction-of-requires : tie.Need-correction-of-requires
 correction-of-requires c κs = search needs
 
--- src/exports.rt:78:32
 enum-told-2 : tie.Need-enum-told-2
 enum-told-2 c = search needs
 
--- src/exports.rt:70:1
 returns : tie.Need-returns
 returns c =
     let taken = sym (c .before .before .before .before .rows-verdict .ensures) ∙ c .before .before .enum-told .given .1 in
     _∙_ {b = c .correction-of .result} (search needs) (simp (taken, c .correction-of .ensures, c .before .record-in .ensures))
 
--- src/exports.rt:70:1
 returns-2 : tie.Need-returns-2
 returns-2 c =
     let left = sym (c .before .before .rows-verdict .ensures) ∙ c .enum-told2 .given .1 in

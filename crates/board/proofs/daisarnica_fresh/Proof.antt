@@ -5,42 +5,33 @@ use borrow.Author.Needs.{needs}
 use Rattle.board.proofs.daisarnica_fresh.Statement.{statement}
 use Rattle.board.proofs.daisarnica_fresh.Tie as tie
 
--- src/exports.rt:22:9
 seat-in-requires : tie.Need-seat-in-requires
 seat-in-requires c κs = search needs
 
--- src/exports.rt:23:9
 seat-verdict-requires : tie.Need-seat-verdict-requires
 seat-verdict-requires c κs = search needs
 
--- src/exports.rt:26:29
 enum-told : tie.Need-enum-told
 enum-told c = search needs
 
--- src/exports.rt:26:29
 fresh-record-requires : tie.Need-fresh-record-requires
 fresh-record-requires c κs = search needs
 
--- src/exports.rt:26:21
 rows-of-requires : tie.Need-rows-of-requires
 rows-of-requires c κs = search needs
 
--- src/exports.rt:29:32
 enum-told-2 : tie.Need-enum-told-2
 enum-told-2 c = search needs
 
--- src/exports.rt:29:32
 verdict-number-requires : tie.Need-verdict-number-requires
 verdict-number-requires c κs = search needs
 
--- src/exports.rt:18:1
 returns : tie.Need-returns
 returns c =
     let seat = c .before .before .before .before .before .seat-in .ensures in
     let taken = sym (ap seatVerdict seat) ∙ sym (c .before .before .before .before .seat-verdict .ensures) ∙ c .before .before .enum-told .given .1 in
     (simp taken, simp (taken, c .rows-of .ensures, c .before .fresh-record .ensures, seat))
 
--- src/exports.rt:18:1
 returns-2 : tie.Need-returns-2
 returns-2 c =
     let seat = c .before .before .before .before .seat-in .ensures in

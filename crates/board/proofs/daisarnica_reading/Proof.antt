@@ -6,29 +6,23 @@ use borrow.Author.Needs.{needs}
 use Rattle.board.proofs.daisarnica_reading.Statement.{statement}
 use Rattle.board.proofs.daisarnica_reading.Tie as tie
 
--- src/exports.rt:87:9
 counter-reading-requires : tie.Need-counter-reading-requires
 counter-reading-requires c κs = search needs
 
--- src/exports.rt:89:25
 enum-known-x : tie.Need-enum-known-x
 enum-known-x c = search needs
 
--- src/exports.rt:93:29
 enum-known-x-2 : tie.Need-enum-known-x-2
 enum-known-x-2 c = search needs
 
--- src/exports.rt:95:13
 verdict-number-requires : tie.Need-verdict-number-requires
 verdict-number-requires c κs = search needs
 
--- src/exports.rt:83:1
 returns : tie.Need-returns
 returns c =
     let counts = sym (c .before .before .before .counter-reading .ensures) ∙ c .before .x .given .1 in
     ap countedNumbers (sym counts)
 
--- src/exports.rt:83:1
 returns-2 : tie.Need-returns-2
 returns-2 c =
     let far = sym (c .before .before .before .before .counter-reading .ensures) ∙ c .before .before .x2 .given .1 in

@@ -4,37 +4,29 @@ use borrow.Author.Needs.{needs}
 use Rattle.board.proofs.daisarnica_result.Statement.{statement}
 use Rattle.board.proofs.daisarnica_result.Tie as tie
 
--- src/exports.rt:56:9
 rows-verdict-requires : tie.Need-rows-verdict-requires
 rows-verdict-requires c κs = search needs
 
--- src/exports.rt:59:38
 enum-told : tie.Need-enum-told
 enum-told c = search needs
 
--- src/exports.rt:59:38
 record-in-requires : tie.Need-record-in-requires
 record-in-requires c κs = search needs
 
--- src/exports.rt:59:23
 result-numbers-requires : tie.Need-result-numbers-requires
 result-numbers-requires c κs = search needs
 
--- src/exports.rt:63:13
 enum-told-2 : tie.Need-enum-told-2
 enum-told-2 c = search needs
 
--- src/exports.rt:64:13
 verdict-number-requires : tie.Need-verdict-number-requires
 verdict-number-requires c κs = search needs
 
--- src/exports.rt:50:1
 returns : tie.Need-returns
 returns c =
     let taken = sym (c .before .before .before .before .rows-verdict .ensures) ∙ c .before .before .enum-told .given .1 in
     (simp taken, simp (taken, c .result-numbers .ensures, c .before .record-in .ensures))
 
--- src/exports.rt:50:1
 returns-2 : tie.Need-returns-2
 returns-2 c =
     let left = sym (c .before .before .before .before .rows-verdict .ensures) ∙ c .before .before .enum-told2 .given .1 in

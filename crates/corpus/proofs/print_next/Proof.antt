@@ -7,69 +7,54 @@ use borrow.Author.Needs.{needs}
 use Rattle.corpus.proofs.print_next.Statement.{statement}
 use Rattle.corpus.proofs.print_next.Tie as tie
 
--- src/main.rt:17:36
 slice-aggregate-read-full : tie.Need-slice-aggregate-read-full
 slice-aggregate-read-full c = search needs
 
--- src/main.rt:17:8
 read-full-requires : tie.Need-read-full-requires
 read-full-requires c κs = search needs
 
--- src/main.rt:18:9
 returns : tie.Need-returns
 returns c = search needs
 
--- src/main.rt:20:26
 slice-aggregate-word-at : tie.Need-slice-aggregate-word-at
 slice-aggregate-word-at c = search needs
 
--- src/main.rt:20:18
 word-at-requires : tie.Need-word-at-requires
 word-at-requires c κs = search needs
 
--- src/main.rt:20:18
 cast-length : tie.Need-cast-length
 cast-length c = search needs
 
--- src/main.rt:22:9
 returns-2 : tie.Need-returns-2
 returns-2 c = search needs
 
--- src/main.rt:24:22
 large-buffer-requires : tie.Need-large-buffer-requires
 large-buffer-requires c κs = search needs
 
--- src/main.rt:25:41
 array-borrow-prefix-buffer : tie.Need-array-borrow-prefix-buffer
 array-borrow-prefix-buffer c = search needs
 
--- src/main.rt:25:41
 slice-aggregate-read-full-2 : tie.Need-slice-aggregate-read-full-2
 slice-aggregate-read-full-2 c = sym (length-take-le _ (c .before .large-buffer .result) (omega (arith, c .before .large-buffer .ensures, c .before .before .if2 .left)))
 
--- src/main.rt:25:9
 read-full-requires-2 : tie.Need-read-full-requires-2
 read-full-requires-2 c κs = search needs
 
--- src/main.rt:26:17
 array-share-prefix-buffer : tie.Need-array-share-prefix-buffer
 array-share-prefix-buffer c =
     let r = c .before .read-full2 in
     let rest = drop (c .before .before .before .before .before .word-at .result) (c .before .before .before .large-buffer .result) in
     omega (arith, r .ensures .0, length-append (r .last .1 .0) rest)
 
--- src/main.rt:26:17
 slice-aggregate-print-sheet : tie.Need-slice-aggregate-print-sheet
 slice-aggregate-print-sheet c =
     let r = c .before .before .read-full2 in
     let rest = drop (c .before .before .before .before .before .before .word-at .result) (c .before .before .before .before .large-buffer .result) in
     sym (length-take-le _ (r .last .1 .0 ++ rest) (omega (arith, r .ensures .0, length-append (r .last .1 .0) rest)))
 
--- src/main.rt:26:5
 print-sheet-requires : tie.Need-print-sheet-requires
 print-sheet-requires c κs = search needs
 
--- src/main.rt:15:1
 returns-3 : tie.Need-returns-3
 returns-3 c = search needs
 

@@ -5,28 +5,22 @@ use borrow.Author.Needs.{needs}
 use Rattle.corpus.proofs.print_sheet.Statement.{statement}
 use Rattle.corpus.proofs.print_sheet.Tie as tie
 
--- src/main.rt:10:26
 slice-aggregate-print : tie.Need-slice-aggregate-print
 slice-aggregate-print c = search needs
 
--- src/main.rt:10:9
 print-requires : tie.Need-print-requires
 print-requires c κs = search needs
 
--- src/main.rt:11:34
 array-share-prefix-out : tie.Need-array-share-prefix-out
 array-share-prefix-out c = search needs
 
--- src/main.rt:11:34
 slice-aggregate-write-all : tie.Need-slice-aggregate-write-all
 slice-aggregate-write-all c =
     sym (length-take-le _ (c .before .before .print .last .1 .0) (omega (arith, c .before .before .print .ensures .2, c .before .out2 .given)))
 
--- src/main.rt:11:5
 write-all-requires : tie.Need-write-all-requires
 write-all-requires c κs = search needs
 
--- src/main.rt:8:1
 returns : tie.Need-returns
 returns c = search needs
 

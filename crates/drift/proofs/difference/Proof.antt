@@ -3,19 +3,15 @@ use borrow.Author.Needs.{needs}
 use Rattle.drift.proofs.difference.Statement.{statement}
 use Rattle.drift.proofs.difference.Tie as tie
 
--- src/lib.rt:16:5
 cast-result : tie.Need-cast-result
 cast-result c = search needs
 
--- src/lib.rt:16:16
 cast-result-2 : tie.Need-cast-result-2
 cast-result-2 c = search needs
 
--- src/lib.rt:16:5
 sub-result : tie.Need-sub-result
 sub-result c = difference-fits (c .args .a) (c .args .b) (c .pre .0) (c .pre .1)
 
--- src/lib.rt:12:1
 returns : tie.Need-returns
 returns c = difference-is (c .args .a) (c .args .b) (c .pre .0) (c .pre .1)
 

@@ -6,13 +6,11 @@ use mir.Facts.{toZ-ofZ}
 use Rattle.drift.proofs.lesser.Statement.{statement}
 use Rattle.drift.proofs.lesser.Tie as tie
 
--- src/lib.rt:37:1
 returns : tie.Need-returns
 returns c =
     toZ-ofZ {w = w64} (c .before .fits .x)
     ∙ sym (ap (λ (t : Bool). cond t (c .before .args .x) (c .before .args .y)) (sym (ap₂ ltZ (toZ-ofZ {w = w64} (c .before .fits .x)) (toZ-ofZ {w = w64} (c .before .fits .y))) ∙ c .if1 .taken))
 
--- src/lib.rt:37:1
 returns-2 : tie.Need-returns-2
 returns-2 c =
     toZ-ofZ {w = w64} (c .before .fits .y)

@@ -8,15 +8,12 @@ use borrow.Author.Needs.{needs}
 use Rattle.drift.proofs.stays_steady.Statement.{statement}
 use Rattle.drift.proofs.stays_steady.Tie as tie
 
--- src/lib.rt:47:9
 lead-requires : tie.Need-lead-requires
 lead-requires c κs = search needs
 
--- src/lib.rt:48:9
 lag-requires : tie.Need-lag-requires
 lag-requires c κs = search needs
 
--- src/lib.rt:44:1
 returns : tie.Need-returns
 returns c =
     let A = c .before .before .args in

@@ -2,78 +2,58 @@ use Rattle.inputs.proofs.Numbers.{action-rest}
 use Rattle.entries.proofs.Asks.{start-asked, vote-asked, adjust-asked}
 use Rattle.protocol.specs.Step.{actionOf}
 use Rattle.protocol.specs.Run.{inputOf}
-use native.Mathlib.Omega.{arith}
 use borrow.Author.Needs.{needs}
 use Rattle.entries.proofs.asked.Statement.{statement}
 use Rattle.entries.proofs.asked.Tie as tie
-use Rattle.entries.proofs.asked.Reads as reads
-use Rattle.entries.proofs.asked.Lts as lts
-use Rattle.entries.proofs.adjustment.Reads as adjustment-reads
-use Rattle.entries.proofs.carried_choice.Reads as carried-choice-reads
-use Rattle.entries.proofs.carried_reading.Reads as carried-reading-reads
 
--- src/lib.rt:68:42
 carried-choice-requires : tie.Need-carried-choice-requires
 carried-choice-requires c κs = search needs
 
--- src/lib.rt:68:61
 carried-reading-requires : tie.Need-carried-reading-requires
 carried-reading-requires c κs = search needs
 
--- src/lib.rt:71:44
 carried-choice-requires-2 : tie.Need-carried-choice-requires-2
 carried-choice-requires-2 c κs = search needs
 
--- src/lib.rt:71:63
 adjustment-requires : tie.Need-adjustment-requires
 adjustment-requires c κs = search needs
 
--- src/lib.rt:57:1
 returns : tie.Need-returns
 unfolding actionOf inputOf
 returns c = search needs
 
--- src/lib.rt:57:1
 returns-2 : tie.Need-returns-2
 unfolding actionOf inputOf
 returns-2 c = start-asked (c .before .args .e) (c .before .args .x) (c .match .keys2)
 
--- src/lib.rt:57:1
 returns-3 : tie.Need-returns-3
 unfolding actionOf inputOf
 returns-3 c = search needs
 
--- src/lib.rt:57:1
 returns-4 : tie.Need-returns-4
 unfolding actionOf inputOf
 returns-4 c = search needs
 
--- src/lib.rt:57:1
 returns-5 : tie.Need-returns-5
 unfolding actionOf inputOf
 returns-5 c = vote-asked (c .before .before .before .args .e) (c .before .before .before .args .x) _ _ (c .before .before .match .keys5) (c .before .carried-choice .ensures) (c .carried-reading .ensures)
 
--- src/lib.rt:57:1
 returns-6 : tie.Need-returns-6
 unfolding actionOf inputOf
 returns-6 c = search needs
 
--- src/lib.rt:57:1
 returns-7 : tie.Need-returns-7
 unfolding actionOf inputOf
 returns-7 c = search needs
 
--- src/lib.rt:57:1
 returns-8 : tie.Need-returns-8
 unfolding actionOf inputOf
 returns-8 c = adjust-asked (c .before .before .before .args .e) (c .before .before .before .args .x) _ _ (c .before .before .match .keys8) (c .before .carried-choice2 .ensures) (c .adjustment .ensures)
 
--- src/lib.rt:57:1
 returns-9 : tie.Need-returns-9
 unfolding actionOf inputOf
 returns-9 c = search needs
 
--- src/lib.rt:57:1
 returns-10 : tie.Need-returns-10
 unfolding actionOf inputOf
 returns-10 c =

@@ -15,31 +15,24 @@ Inv-loop g k₀ q₀ k q = (q ≤ g .n) × (k ≤ q) × (k ≡ countBelow q (isC
 abbrev μ-loop : tie.MeasureT-loop
 μ-loop g k₀ q₀ k q = g .n - q
 
--- src/lib.rt:50:5
 loop-holds : tie.Need-loop-holds Inv-loop μ-loop
 loop-holds c = (omega arith, omega arith, refl)
 
--- src/lib.rt:51:24
 is-correct-requires : tie.Need-is-correct-requires Inv-loop μ-loop
 is-correct-requires c κs = search needs
 
--- src/lib.rt:51:17
 one-if-requires : tie.Need-one-if-requires Inv-loop μ-loop
 one-if-requires c κs = search needs
 
--- src/lib.rt:51:13
 add-k : tie.Need-add-k Inv-loop μ-loop
 add-k c = record { fits = let I = c .before .before .before .before .loop .inv in let one = cond-below (c .before .is-correct .result) in let z = c .one-if .ensures in omega (arith, I, c .before .before .if1 .taken) }
 
--- src/lib.rt:52:9
 add-q : tie.Need-add-q Inv-loop μ-loop
 add-q c = search needs
 
--- src/lib.rt:50:5
 loop-less : tie.Need-loop-less Inv-loop μ-loop
 loop-less c = search needs
 
--- src/lib.rt:50:5
 loop-again : tie.Need-loop-again Inv-loop μ-loop
 loop-again c =
     let L = c .before .before .before .before .loop in
@@ -47,7 +40,6 @@ loop-again c =
     let z = c .one-if .ensures in
     (omega (arith, c .before .before .if1 .taken), omega (arith, L .inv .1), ap₂ _+_ (L .inv .2) (z ∙ ap (λ (b : Bool). cond b 1 0) (c .before .is-correct .ensures)) ∙ sym (count-more (L .q) (isCorrect (c .before .before .before .before .before .args .g))))
 
--- src/lib.rt:45:1
 returns : tie.Need-returns Inv-loop μ-loop
 returns c =
     let L = c .before .before .loop in

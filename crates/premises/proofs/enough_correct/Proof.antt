@@ -6,27 +6,21 @@ use borrow.Author.Needs.{needs}
 use Rattle.premises.proofs.enough_correct.Statement.{statement}
 use Rattle.premises.proofs.enough_correct.Tie as tie
 
--- src/lib.rt:61:5
 cast-result : tie.Need-cast-result
 cast-result c = search needs
 
--- src/lib.rt:61:19
 correct-heads-requires : tie.Need-correct-heads-requires
 correct-heads-requires c κs = search needs
 
--- src/lib.rt:61:19
 cast-result-2 : tie.Need-cast-result-2
 cast-result-2 c = search needs
 
--- src/lib.rt:61:45
 cast-result-3 : tie.Need-cast-result-3
 cast-result-3 c = search needs
 
--- src/lib.rt:61:19
 add-result : tie.Need-add-result
 add-result c = search needs
 
--- src/lib.rt:58:1
 returns : tie.Need-returns
 unfolding premise1
 returns c = rw (c .before .correct-heads .ensures .0) (let g = c .before .before .before .args .g in leb-minus (g .n) (countBelow (g .n) (isCorrect g)) (g .f))

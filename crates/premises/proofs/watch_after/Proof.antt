@@ -2,7 +2,6 @@ use Rattle.premises.proofs.Watched.{watch-is}
 use Rattle.premises.proofs.watch_after.Statement.{statement}
 use Rattle.premises.proofs.watch_after.Tie as tie
 
--- src/lib.rt:28:1
 returns : tie.Need-returns
 returns c =
     let A = c .before .before .before .before .before .before .before .args in watch-is (A .w) (A .delivery) (A .close) (A .heard)

@@ -8,63 +8,48 @@ use borrow.Author.Needs.{needs}
 use Rattle.printing.proofs.print_sheet.Statement.{statement}
 use Rattle.printing.proofs.print_sheet.Tie as tie
 
--- src/lib.rt:118:42
 slice-aggregate-replay-and-judge : tie.Need-slice-aggregate-replay-and-judge
 slice-aggregate-replay-and-judge c = search needs
 
--- src/lib.rt:118:9
 replay-and-judge-requires : tie.Need-replay-and-judge-requires
 replay-and-judge-requires c κs = search needs
 
--- src/lib.rt:121:30
 enum-known-replayed : tie.Need-enum-known-replayed
 enum-known-replayed c = search needs
 
--- src/lib.rt:121:43
 put-refused-requires : tie.Need-put-refused-requires
 put-refused-requires c κs = search needs
 
--- src/lib.rt:123:32
 enum-told : tie.Need-enum-told
 enum-told c = search needs
 
--- src/lib.rt:123:32
 shared-slice-read-setting-of : tie.Need-shared-slice-read-setting-of
 shared-slice-read-setting-of c = let h = has-setting _ (replicate 48 0) (omega arith) _ (c .before .before .before .before .replay-and-judge .ensures .0) (c .before .enum-told .given .1) in search needs
 
--- src/lib.rt:123:42
 shared-slice-read-setting-of-2 : tie.Need-shared-slice-read-setting-of-2
 shared-slice-read-setting-of-2 c = let h = has-setting _ (replicate 48 0) (omega arith) _ (c .before .before .before .before .before .replay-and-judge .ensures .0) (c .before .before .enum-told .given .1) in search needs
 
--- src/lib.rt:123:17
 setting-of-requires : tie.Need-setting-of-requires
 setting-of-requires c κs = search needs
 
--- src/lib.rt:125:17
 premise-number-requires : tie.Need-premise-number-requires
 premise-number-requires c κs = search needs
 
--- src/lib.rt:126:25
 slice-aggregate-put-results : tie.Need-slice-aggregate-put-results
 slice-aggregate-put-results c = search needs
 
--- src/lib.rt:126:13
 put-results-requires : tie.Need-put-results-requires
 put-results-requires c κs = search needs
 
--- src/lib.rt:114:1
 same-length : tie.Need-same-length
 same-length c = search needs
 
--- src/lib.rt:114:1
 returns : tie.Need-returns
 returns c = rw (prints-refusal _ (replicate 48 0) (omega arith) _ _ _ (c .before .before .before .before .before .before .before .before .replay-and-judge .ensures .0) (c .before .before .before .before .before .replayed .given .1)) at (c .before .before .put-refused .ensures)
 
--- src/lib.rt:114:1
 same-length-2 : tie.Need-same-length-2
 same-length-2 c = search needs
 
--- src/lib.rt:114:1
 returns-2 : tie.Need-returns-2
 returns-2 c =
     let e = c .before .before .before .before .before .before .before .before .before .before .before .before .replay-and-judge .ensures in

@@ -17,31 +17,24 @@ Inv-loop g i took received sending a p₀ p = (p ≤ g .n) × (allBelow p (headR
 abbrev μ-loop : tie.MeasureT-loop
 μ-loop g i took received sending a p₀ p = g .n - p
 
--- src/lib.rt:139:5
 loop-holds : tie.Need-loop-holds Inv-loop μ-loop
 loop-holds c = (omega arith, refl)
 
--- src/lib.rt:140:13
 head-reached-requires : tie.Need-head-reached-requires Inv-loop μ-loop
 head-reached-requires c κs = search needs
 
--- src/lib.rt:141:13
 returns : tie.Need-returns Inv-loop μ-loop
 returns c = let A = c .before .before .before .before .before .before .before .before .args in sym (all-fails (A .g .n) (c .before .before .before .before .loop .p) (headReached (A .g) (A .i) (now (A .took)) (now (A .received)) (now (A .sending)) (A .a)) (c .before .before .if1 .taken) (sym (c .before .head-reached .ensures) ∙ not-true {b = c .before .head-reached .result} (c .if2 .taken)))
 
--- src/lib.rt:143:9
 add-p : tie.Need-add-p Inv-loop μ-loop
 add-p c = search needs
 
--- src/lib.rt:139:5
 loop-less : tie.Need-loop-less Inv-loop μ-loop
 loop-less c = omega (arith, c .before .before .if1 .taken)
 
--- src/lib.rt:139:5
 loop-again : tie.Need-loop-again Inv-loop μ-loop
 loop-again c = let A = c .before .before .before .before .before .before .before .before .args in (omega (arith, c .before .before .if1 .taken), all-more (c .before .before .before .before .loop .p) (headReached (A .g) (A .i) (now (A .took)) (now (A .received)) (now (A .sending)) (A .a)) (c .before .before .before .before .loop .inv .1) (sym (c .before .head-reached .ensures) ∙ not-false {b = c .before .head-reached .result} (c .if2 .left)))
 
--- src/lib.rt:128:1
 returns-2 : tie.Need-returns-2 Inv-loop μ-loop
 returns-2 c = let A = c .before .before .before .before .before .before .args in sym (all-until (A .g .n) (c .before .before .loop .p) (headReached (A .g) (A .i) (now (A .took)) (now (A .received)) (now (A .sending)) (A .a)) (c .before .before .loop .inv .0) (c .if1 .left) (c .before .before .loop .inv .1))
 

@@ -10,31 +10,24 @@ use borrow.Author.Needs.{needs}
 use Rattle.reached.proofs.frame_reached.Statement.{statement}
 use Rattle.reached.proofs.frame_reached.Tie as tie
 
--- src/lib.rt:60:26
 place-for-requires : tie.Need-place-for-requires
 place-for-requires c κs = search needs
 
--- src/lib.rt:60:8
 index-at-requires : tie.Need-index-at-requires
 index-at-requires c κs = search needs
 
--- src/lib.rt:61:42
 receivers-place-requires : tie.Need-receivers-place-requires
 receivers-place-requires c κs = search needs
 
--- src/lib.rt:61:13
 set-at-requires : tie.Need-set-at-requires
 set-at-requires c κs = search needs
 
--- src/lib.rt:62:17
 with-head-requires : tie.Need-with-head-requires
 with-head-requires c κs = search needs
 
--- src/lib.rt:62:9
 has-all-requires : tie.Need-has-all-requires
 has-all-requires c κs = search needs
 
--- src/lib.rt:49:1
 returns : tie.Need-returns
 returns c =
     let A = c .before .before .before .before .before .before .before .before .before .args in
@@ -43,7 +36,6 @@ returns c =
     let reached = c .has-all .ensures ∙ ap (λ (m : ℕ). hasAll m (A .g .correct)) (c .before .with-head .ensures ∙ ap (λ (m : ℕ). withHead m (A .p)) receivers) in
     reached ∙ sym (asked _ _ (ap (λ (x : ℕ). ltb x (A .i)) (sym at) ∙ lt-ltb _ _ (c .before .before .before .before .if1 .taken)))
 
--- src/lib.rt:49:1
 returns-2 : tie.Need-returns-2
 returns-2 c =
     let A = c .before .before .before .before .before .args in

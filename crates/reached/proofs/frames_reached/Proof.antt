@@ -17,31 +17,24 @@ Inv-loop g i received sending a p k₀ k = (k ≤ 16) × (allBelow k (frameReach
 abbrev μ-loop : tie.MeasureT-loop
 μ-loop g i received sending a p k₀ k = 16 - k
 
--- src/lib.rt:73:5
 loop-holds : tie.Need-loop-holds Inv-loop μ-loop
 loop-holds c = (omega arith, refl)
 
--- src/lib.rt:74:13
 frame-reached-requires : tie.Need-frame-reached-requires Inv-loop μ-loop
 frame-reached-requires c κs = search needs
 
--- src/lib.rt:75:13
 returns : tie.Need-returns Inv-loop μ-loop
 returns c = let A = c .before .before .before .before .before .before .args in sym (all-fails 16 (c .before .before .before .loop .k) (frameReached (A .g) (A .i) (now (A .received)) (now (A .sending)) (A .a) (A .p)) (c .before .before .loop-test .taken) (sym (c .before .frame-reached .ensures) ∙ not-true {b = c .before .frame-reached .result} (c .if1 .taken)))
 
--- src/lib.rt:77:9
 add-k : tie.Need-add-k Inv-loop μ-loop
 add-k c = search needs
 
--- src/lib.rt:73:5
 loop-less : tie.Need-loop-less Inv-loop μ-loop
 loop-less c = omega (arith, c .before .before .loop-test .taken)
 
--- src/lib.rt:73:5
 loop-again : tie.Need-loop-again Inv-loop μ-loop
 loop-again c = let A = c .before .before .before .before .before .before .args in (omega (arith, c .before .before .loop-test .taken), all-more (c .before .before .before .loop .k) (frameReached (A .g) (A .i) (now (A .received)) (now (A .sending)) (A .a) (A .p)) (c .before .before .before .loop .inv .1) (sym (c .before .frame-reached .ensures) ∙ not-false {b = c .before .frame-reached .result} (c .if1 .left)))
 
--- src/lib.rt:69:1
 returns-2 : tie.Need-returns-2 Inv-loop μ-loop
 returns-2 c = let A = c .before .before .before .before .args in sym (all-until 16 (c .before .loop .k) (frameReached (A .g) (A .i) (now (A .received)) (now (A .sending)) (A .a) (A .p)) (c .before .loop .inv .0) (c .loop-test .left) (c .before .loop .inv .1))
 

@@ -4,15 +4,12 @@ use borrow.Author.Needs.{needs}
 use Rattle.reached.proofs.phase_heard.Statement.{statement}
 use Rattle.reached.proofs.phase_heard.Tie as tie
 
--- src/lib.rt:161:9
 all-reached-requires : tie.Need-all-reached-requires
 all-reached-requires c κs = search needs
 
--- src/lib.rt:149:1
 returns : tie.Need-returns
 returns c = c .all-reached .ensures ∙ sym (asked (c .before .before .before .before .before .args .first) _ (c .before .if1 .taken))
 
--- src/lib.rt:149:1
 returns-2 : tie.Need-returns-2
 returns-2 c = search needs
 

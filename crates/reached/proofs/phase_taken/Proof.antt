@@ -7,26 +7,21 @@ use borrow.Author.Needs.{needs}
 use Rattle.reached.proofs.phase_taken.Statement.{statement}
 use Rattle.reached.proofs.phase_taken.Tie as tie
 
--- src/lib.rt:101:9
 took-part-requires : tie.Need-took-part-requires
 took-part-requires c κs = search needs
 
--- src/lib.rt:101:30
 start-reached-requires : tie.Need-start-reached-requires
 start-reached-requires c κs = search needs
 
--- src/lib.rt:103:9
 took-in-requires : tie.Need-took-in-requires
 took-in-requires c κs = search needs
 
--- src/lib.rt:97:1
 returns : tie.Need-returns
 returns c =
     let A = c .before .before .before .before .before .args in
     ap₂ _&&_ (c .before .took-part .ensures) (c .start-reached .ensures)
     ∙ sym (ap (λ (t : Bool). cond t (tookPart (now (A .took)) (A .p) && startReached (A .g) (now (A .took)) (now (A .received)) (A .p)) (tookIn (now (A .took)) 7 (A .p))) (eq-eqb (A .a) 5 (c .before .before .if1 .taken)))
 
--- src/lib.rt:97:1
 returns-2 : tie.Need-returns-2
 returns-2 c =
     let A = c .before .before .before .before .args in

@@ -10,23 +10,18 @@ use borrow.Author.Needs.{needs}
 use Rattle.reached.proofs.start_reached.Statement.{statement}
 use Rattle.reached.proofs.start_reached.Tie as tie
 
--- src/lib.rt:93:6
 took-in-requires : tie.Need-took-in-requires
 took-in-requires c κs = search needs
 
--- src/lib.rt:93:53
 receivers-place-requires : tie.Need-receivers-place-requires
 receivers-place-requires c κs = search needs
 
--- src/lib.rt:93:36
 set-at-requires : tie.Need-set-at-requires
 set-at-requires c κs = search needs
 
--- src/lib.rt:93:28
 has-all-requires : tie.Need-has-all-requires
 has-all-requires c κs = search needs
 
--- src/lib.rt:90:1
 returns : tie.Need-returns
 returns c =
     let A = c .before .before .before .before .before .before .args in

@@ -2,15 +2,12 @@ use borrow.Author.Needs.{needs}
 use Rattle.reached.proofs.took_in.Statement.{statement}
 use Rattle.reached.proofs.took_in.Tie as tie
 
--- src/lib.rt:45:14
 set-at-requires : tie.Need-set-at-requires
 set-at-requires c κs = search needs
 
--- src/lib.rt:45:5
 has-head-requires : tie.Need-has-head-requires
 has-head-requires c κs = search needs
 
--- src/lib.rt:42:1
 returns : tie.Need-returns
 returns c = simp (c .has-head .ensures, c .before .set-at .ensures)
 

@@ -3,23 +3,18 @@ use borrow.Author.Needs.{needs}
 use Rattle.reached.proofs.took_part.Statement.{statement}
 use Rattle.reached.proofs.took_part.Tie as tie
 
--- src/lib.rt:86:5
 took-in-requires : tie.Need-took-in-requires
 took-in-requires c κs = search needs
 
--- src/lib.rt:86:28
 took-in-requires-2 : tie.Need-took-in-requires-2
 took-in-requires-2 c κs = search needs
 
--- src/lib.rt:86:51
 took-in-requires-3 : tie.Need-took-in-requires-3
 took-in-requires-3 c κs = search needs
 
--- src/lib.rt:86:73
 took-in-requires-4 : tie.Need-took-in-requires-4
 took-in-requires-4 c κs = search needs
 
--- src/lib.rt:83:1
 returns : tie.Need-returns
 returns c = rw (c .before .before .before .took-in .ensures, c .before .before .took-in2 .ensures, c .before .took-in3 .ensures, c .took-in4 .ensures) refl
 

@@ -5,48 +5,37 @@ use borrow.Author.Needs.{needs}
 use Rattle.replay.proofs.main.Statement.{statement}
 use Rattle.replay.proofs.main.Tie as tie
 
--- src/main.rt:8:22
 large-buffer-requires : tie.Need-large-buffer-requires
 large-buffer-requires c κs = search needs
 
--- src/main.rt:9:41
 slice-aggregate-read-full : tie.Need-slice-aggregate-read-full
 slice-aggregate-read-full c = search needs
 
--- src/main.rt:9:9
 read-full-requires : tie.Need-read-full-requires
 read-full-requires c κs = search needs
 
--- src/main.rt:11:19
 array-share-prefix-buffer : tie.Need-array-share-prefix-buffer
 array-share-prefix-buffer c = search needs
 
--- src/main.rt:11:19
 slice-aggregate-print : tie.Need-slice-aggregate-print
 slice-aggregate-print c = search needs
 
--- src/main.rt:11:33
 slice-aggregate-print-2 : tie.Need-slice-aggregate-print-2
 slice-aggregate-print-2 c = search needs
 
--- src/main.rt:11:9
 print-requires : tie.Need-print-requires
 print-requires c κs = search needs
 
--- src/main.rt:12:34
 array-share-prefix-out : tie.Need-array-share-prefix-out
 array-share-prefix-out c = search needs
 
--- src/main.rt:12:34
 slice-aggregate-write-all : tie.Need-slice-aggregate-write-all
 slice-aggregate-write-all c =
     sym (length-take-le _ (c .before .before .print .last .1 .0) (omega (arith, c .before .before .print .ensures .2, c .before .out2 .given)))
 
--- src/main.rt:12:5
 write-all-requires : tie.Need-write-all-requires
 write-all-requires c κs = search needs
 
--- src/main.rt:7:1
 returns : tie.Need-returns
 returns c = search needs
 

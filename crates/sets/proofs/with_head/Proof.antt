@@ -8,15 +8,12 @@ use borrow.Author.Needs.{needs}
 use Rattle.sets.proofs.with_head.Statement.{statement}
 use Rattle.sets.proofs.with_head.Tie as tie
 
--- src/lib.rt:9:15
 cast-result : tie.Need-cast-result
 cast-result c = search needs
 
--- src/lib.rt:9:9
 shl-result : tie.Need-shl-result
 shl-result c = search needs
 
--- src/lib.rt:6:1
 returns : tie.Need-returns
 returns c = ap (bitOr (c .args .m)) (one-bit (c .args .q % 16) (mod-lt (c .args .q) (omega arith)))
 

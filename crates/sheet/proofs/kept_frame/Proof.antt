@@ -1,56 +1,40 @@
-use native.Mathlib.Omega.{arith}
 use borrow.Author.Needs.{needs}
 use Rattle.sheet.proofs.kept_frame.Statement.{statement}
 use Rattle.sheet.proofs.kept_frame.Tie as tie
-use Rattle.sheet.proofs.kept_frame.Reads as reads
-use Rattle.sheet.proofs.kept_frame.Lts as lts
-use Rattle.entries.proofs.is_frame.Reads as is-frame-reads
 
--- src/lib.rt:134:27
 enum-told : tie.Need-enum-told
 enum-told c = search needs
 
--- src/lib.rt:135:25
 enum-told-2 : tie.Need-enum-told-2
 enum-told-2 c = search needs
 
--- src/lib.rt:136:36
 enum-told-3 : tie.Need-enum-told-3
 enum-told-3 c = search needs
 
--- src/lib.rt:136:36
 is-frame-requires : tie.Need-is-frame-requires
 is-frame-requires c κs = search needs
 
--- src/lib.rt:137:38
 enum-told-4 : tie.Need-enum-told-4
 enum-told-4 c = search needs
 
--- src/lib.rt:137:38
 is-frame-requires-2 : tie.Need-is-frame-requires-2
 is-frame-requires-2 c κs = search needs
 
--- src/lib.rt:129:1
 returns : tie.Need-returns
 returns c = simp (c .enum-told .given .1)
 
--- src/lib.rt:129:1
 returns-2 : tie.Need-returns-2
 returns-2 c = simp (c .enum-told2 .given .1)
 
--- src/lib.rt:129:1
 returns-3 : tie.Need-returns-3
 returns-3 c = simp (c .if1 .taken, ← c .before .is-frame .ensures, c .before .before .enum-told3 .given .1)
 
--- src/lib.rt:129:1
 returns-4 : tie.Need-returns-4
 returns-4 c = simp (c .if1 .left, ← c .before .is-frame .ensures, c .before .before .enum-told3 .given .1)
 
--- src/lib.rt:129:1
 returns-5 : tie.Need-returns-5
 returns-5 c = simp (c .if2 .taken, ← c .before .is-frame2 .ensures, c .before .before .enum-told4 .given .1)
 
--- src/lib.rt:129:1
 returns-6 : tie.Need-returns-6
 returns-6 c = simp (c .if2 .left, ← c .before .is-frame2 .ensures, c .before .before .enum-told4 .given .1)
 

@@ -2,51 +2,36 @@ use mathlib.Core.Path.{_≡_, sym, subst}
 use mathlib.Core.Bool.{true}
 use Rattle.protocol.specs.declared.Setting.{Setting}
 use Rattle.protocol.specs.Words.{headsFit}
-use Rattle.sheet.proofs.Sheets.{Passed, passed, all-run, none-run}
+use Rattle.sheet.proofs.Sheets.{passed, all-run, none-run}
 use native.Mathlib.Omega.{arith}
 use borrow.Author.Needs.{needs}
 use Rattle.sheet.proofs.run.Statement.{statement}
 use Rattle.sheet.proofs.run.Tie as tie
-use Rattle.sheet.proofs.run.Reads as reads
-use Rattle.sheet.proofs.run.Lts as lts
-use Rattle.sheet.proofs.refused_at.Reads as refused-at-reads
-use Rattle.sheet.proofs.run_entries.Reads as run-entries-reads
-use Rattle.sheet_words.proofs.sheet_verdict.Reads as sheet-verdict-reads
-use Rattle.words.proofs.setting_of.Reads as setting-of-reads
 
--- src/lib.rt:206:9
 sheet-verdict-requires : tie.Need-sheet-verdict-requires
 sheet-verdict-requires c κs = search needs
 
--- src/lib.rt:208:26
 enum-known-v : tie.Need-enum-known-v
 enum-known-v c = search needs
 
--- src/lib.rt:208:32
 refused-at-requires : tie.Need-refused-at-requires
 refused-at-requires c κs = search needs
 
--- src/lib.rt:210:24
 enum-told : tie.Need-enum-told
 enum-told c = search needs
 
--- src/lib.rt:210:24
 sub-all : tie.Need-sub-all
 sub-all c = let p = passed _ _ (c .before .before .sheet-verdict .ensures) (c .enum-told .given .1) in search needs
 
--- src/lib.rt:211:39
 shared-slice-read-setting-of : tie.Need-shared-slice-read-setting-of
 shared-slice-read-setting-of c = let p = passed _ _ (c .before .before .before .sheet-verdict .ensures) (c .before .enum-told .given .1) in search needs
 
--- src/lib.rt:211:49
 shared-slice-read-setting-of-2 : tie.Need-shared-slice-read-setting-of-2
 shared-slice-read-setting-of-2 c = let p = passed _ _ (c .before .before .before .before .sheet-verdict .ensures) (c .before .before .enum-told .given .1) in search needs
 
--- src/lib.rt:211:17
 setting-of-requires : tie.Need-setting-of-requires
 setting-of-requires c κs = search needs
 
--- src/lib.rt:213:17
 run-entries-requires : tie.Need-run-entries-requires
 run-entries-requires c κs =
     let p = passed _ _ (c .before .before .before .before .before .before .sheet-verdict .ensures) (c .before .before .before .before .enum-told .given .1) in
@@ -55,7 +40,6 @@ run-entries-requires c κs =
     let m = p .most in
     (omega (arith, c .if1 .taken), subst (λ (g : Setting). headsFit (g .n) (g .f) ≡ true) (sym is) (p .heads), is, omega arith)
 
--- src/lib.rt:215:17
 run-entries-requires-2 : tie.Need-run-entries-requires-2
 run-entries-requires-2 c κs =
     let p = passed _ _ (c .before .before .before .before .before .before .sheet-verdict .ensures) (c .before .before .before .before .enum-told .given .1) in
@@ -64,17 +48,14 @@ run-entries-requires-2 c κs =
     let m = p .most in
     (omega (arith, c .if1 .left), subst (λ (g : Setting). headsFit (g .n) (g .f) ≡ true) (sym is) (p .heads), is, omega arith)
 
--- src/lib.rt:203:1
 returns : tie.Need-returns
 returns c = none-run _ _ _ _ _ (c .before .before .before .before .sheet-verdict .ensures) (c .before .before .v .given .1) (c .refused-at .ensures)
 
--- src/lib.rt:203:1
 returns-2 : tie.Need-returns-2
 returns-2 c =
     all-run _ _ _ _ _ _ (c .before .before .before .before .before .before .before .sheet-verdict .ensures) (c .before .before .before .before .before .enum-told .given .1)
     (c .before .before .setting-of .ensures) (omega (arith, c .before .if1 .taken)) (c .run-entries .ensures)
 
--- src/lib.rt:203:1
 returns-3 : tie.Need-returns-3
 returns-3 c =
     all-run _ _ _ _ _ _ (c .before .before .before .before .before .before .before .sheet-verdict .ensures) (c .before .before .before .before .before .enum-told .given .1)

@@ -1,56 +1,41 @@
 use Rattle.protocol.specs.Causes.{sheetVerdict}
 use borrow.Author.Tests.{eq-eqb, le-ltb, lt-ltb, ne-eqb}
-use native.Mathlib.Omega.{arith}
 use borrow.Author.Needs.{needs}
 use Rattle.sheet_words.proofs.sheet_verdict.Statement.{statement}
 use Rattle.sheet_words.proofs.sheet_verdict.Tie as tie
-use Rattle.sheet_words.proofs.sheet_verdict.Reads as reads
-use Rattle.sheet_words.proofs.sheet_verdict.Lts as lts
-use Rattle.words.proofs.first_word_fits.Reads as first-word-fits-reads
-use Rattle.words.proofs.second_word_fits.Reads as second-word-fits-reads
 
--- src/lib.rt:34:9
 returns : tie.Need-returns
 unfolding sheetVerdict
 returns c = simp (lt-ltb _ _ (c .if1 .taken))
 
--- src/lib.rt:37:9
 returns-2 : tie.Need-returns-2
 unfolding sheetVerdict
 returns-2 c = simp (lt-ltb _ _ (c .if2 .taken), le-ltb _ _ (c .before .if1 .left))
 
--- src/lib.rt:40:35
 shared-slice-read-first-word-fits : tie.Need-shared-slice-read-first-word-fits
 shared-slice-read-first-word-fits c = search needs
 
--- src/lib.rt:40:12
 first-word-fits-requires : tie.Need-first-word-fits-requires
 first-word-fits-requires c κs = search needs
 
--- src/lib.rt:41:40
 shared-slice-read-second-word-fits : tie.Need-shared-slice-read-second-word-fits
 shared-slice-read-second-word-fits c = search needs
 
--- src/lib.rt:41:16
 second-word-fits-requires : tie.Need-second-word-fits-requires
 second-word-fits-requires c κs = search needs
 
--- src/lib.rt:42:17
 returns-3 : tie.Need-returns-3
 unfolding sheetVerdict
 returns-3 c = simp (c .if5 .taken, ← c .before .second-word-fits .ensures, c .before .before .before .if4 .taken, ← c .before .before .before .before .first-word-fits .ensures, eq-eqb _ _ (c .before .before .before .before .before .before .if3 .taken), le-ltb _ _ (c .before .before .before .before .before .before .before .if2 .left), le-ltb _ _ (c .before .before .before .before .before .before .before .before .if1 .left))
 
--- src/lib.rt:44:13
 returns-4 : tie.Need-returns-4
 unfolding sheetVerdict
 returns-4 c = simp (c .if5 .left, ← c .before .second-word-fits .ensures, c .before .before .before .if4 .taken, ← c .before .before .before .before .first-word-fits .ensures, eq-eqb _ _ (c .before .before .before .before .before .before .if3 .taken), le-ltb _ _ (c .before .before .before .before .before .before .before .if2 .left), le-ltb _ _ (c .before .before .before .before .before .before .before .before .if1 .left))
 
--- src/lib.rt:46:9
 returns-5 : tie.Need-returns-5
 unfolding sheetVerdict
 returns-5 c = simp (c .if4 .left, ← c .before .first-word-fits .ensures, eq-eqb _ _ (c .before .before .before .if3 .taken), le-ltb _ _ (c .before .before .before .before .if2 .left), le-ltb _ _ (c .before .before .before .before .before .if1 .left))
 
--- src/lib.rt:29:1
 returns-6 : tie.Need-returns-6
 unfolding sheetVerdict
 returns-6 c = simp (ne-eqb _ _ (c .if3 .left), le-ltb _ _ (c .before .if2 .left), le-ltb _ _ (c .before .before .if1 .left))

@@ -1,4 +1,3 @@
-use native.Mathlib.Omega.{arith}
 use borrow.Author.Needs.{needs}
 use Rattle.sheets.proofs.answer_numbers.Statement.{statement}
 use Rattle.sheets.proofs.answer_numbers.Tie as tie

@@ -3,7 +3,6 @@ use denote.Ref.{now}
 use Rattle.sheets.specs.Numbers.{answerNumbers, judgedNumber}
 use Rattle.sheets.proofs.Places.{replay-place, judge-place}
 use Rattle.sheets.proofs.Zeros.{agrees-in-numbers}
-use native.Mathlib.Omega.{arith}
 use borrow.Author.Needs.{needs}
 use Rattle.sheets.proofs.daisarnica_replay_and_judge.Statement.{statement}
 use Rattle.sheets.proofs.daisarnica_replay_and_judge.Tie as tie

@@ -5,23 +5,18 @@ use borrow.Author.Needs.{needs}
 use Rattle.starts.proofs.confirm_heard.Statement.{statement}
 use Rattle.starts.proofs.confirm_heard.Tie as tie
 
--- src/lib.rt:67:12
 has-all-requires : tie.Need-has-all-requires
 has-all-requires c κs = search needs
 
--- src/lib.rt:68:13
 within-tightness-requires : tie.Need-within-tightness-requires
 within-tightness-requires c κs = search needs
 
--- src/lib.rt:63:1
 returns : tie.Need-returns
 returns c = c .within-tightness .ensures ∙ sym (asked-and _ _ _ (eq-eqb _ _ (c .before .before .before .if1 .taken)) (sym (c .before .before .has-all .ensures) ∙ c .before .if2 .taken))
 
--- src/lib.rt:63:1
 returns-2 : tie.Need-returns-2
 returns-2 c = sym (asked-fails _ _ _ (eq-eqb _ _ (c .before .before .if1 .taken)) (sym (c .before .has-all .ensures) ∙ c .if2 .left))
 
--- src/lib.rt:63:1
 returns-3 : tie.Need-returns-3
 returns-3 c = sym (unasked _ _ (ne-eqb _ _ (c .if1 .left)))
 

@@ -2,15 +2,12 @@ use borrow.Author.Tests.{le-ltb, lt-ltb}
 use Rattle.starts.proofs.earlier_of.Statement.{statement}
 use Rattle.starts.proofs.earlier_of.Tie as tie
 
--- src/lib.rt:33:1
 returns : tie.Need-returns
 returns c = simp (lt-ltb _ _ (c .if2 .taken), c .before .if1 .taken)
 
--- src/lib.rt:33:1
 returns-2 : tie.Need-returns-2
 returns-2 c = simp (le-ltb _ _ (c .if2 .left), c .before .if1 .taken)
 
--- src/lib.rt:33:1
 returns-3 : tie.Need-returns-3
 returns-3 c = simp (c .if1 .left)
 

@@ -8,19 +8,15 @@ use borrow.Author.Needs.{needs}
 use Rattle.starts.proofs.start_heard.Statement.{statement}
 use Rattle.starts.proofs.start_heard.Tie as tie
 
--- src/lib.rt:82:9
 confirm-heard-requires : tie.Need-confirm-heard-requires
 confirm-heard-requires c κs = search needs
 
--- src/lib.rt:83:20
 is-correct-requires : tie.Need-is-correct-requires
 is-correct-requires c κs = search needs
 
--- src/lib.rt:84:26
 has-head-requires : tie.Need-has-head-requires
 has-head-requires c κs = search needs
 
--- src/lib.rt:79:1
 returns : tie.Need-returns
 returns c =
     let A = c .before .before .before .before .before .args in

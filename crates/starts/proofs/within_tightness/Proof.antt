@@ -17,35 +17,27 @@ Inv-loop g started v first₀ last₀ q₀ first last q =
 abbrev μ-loop : tie.MeasureT-loop
 μ-loop g started v first₀ last₀ q₀ first last q = g .n - q
 
--- src/lib.rt:52:5
 loop-holds : tie.Need-loop-holds Inv-loop μ-loop
 loop-holds c = (omega arith, omega arith, refl, refl)
 
--- src/lib.rt:53:13
 is-correct-requires : tie.Need-is-correct-requires Inv-loop μ-loop
 is-correct-requires c κs = search needs
 
--- src/lib.rt:54:13
 time-at-requires : tie.Need-time-at-requires Inv-loop μ-loop
 time-at-requires c κs = search needs
 
--- src/lib.rt:55:9
 earlier-of-requires : tie.Need-earlier-of-requires Inv-loop μ-loop
 earlier-of-requires c κs = search needs
 
--- src/lib.rt:56:9
 later-of-requires : tie.Need-later-of-requires Inv-loop μ-loop
 later-of-requires c κs = search needs
 
--- src/lib.rt:57:9
 add-q : tie.Need-add-q Inv-loop μ-loop
 add-q c = search needs
 
--- src/lib.rt:52:5
 loop-less : tie.Need-loop-less Inv-loop μ-loop
 loop-less c = search needs
 
--- src/lib.rt:52:5
 loop-again : tie.Need-loop-again Inv-loop μ-loop
 loop-again c =
     let A = c .before .before .before .before .before .before .before .before .args in
@@ -57,15 +49,12 @@ loop-again c =
     let last = c .later-of .ensures ∙ later-same correct time (I .3) ∙ sym (latest-more (isCorrect (A .g)) (timeAt (now (A .started)) (A .v)) (L .q)) in
     (omega (arith, c .before .before .before .before .if1 .taken), rw (c .before .earlier-of .ensures) (earlier-below (c .before .before .before .is-correct .result) (c .before .before .time-at .result) (L .first) (2 ^ 28) (I .1)), first, last)
 
--- src/lib.rt:59:21
 cast-result : tie.Need-cast-result Inv-loop μ-loop
 cast-result c = search needs
 
--- src/lib.rt:59:13
 add-result : tie.Need-add-result Inv-loop μ-loop
 add-result c = search needs
 
--- src/lib.rt:46:1
 returns : tie.Need-returns Inv-loop μ-loop
 returns c =
     let A = c .before .before .before .before .before .args in

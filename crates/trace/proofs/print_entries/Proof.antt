@@ -1,11 +1,7 @@
 use Prim.Native.Nat.{_-_}
-use native.Mathlib.Omega.{arith}
 use borrow.Author.Needs.{needs}
 use Rattle.trace.proofs.print_entries.Statement.{statement}
 use Rattle.trace.proofs.print_entries.Tie as tie
-use Rattle.trace.proofs.print_entries.Reads as reads
-use Rattle.trace.proofs.print_entries.Lts as lts
-use Rattle.trace.proofs.print_entry.Reads as print-entry-reads
 
 abbrev Inv-loop : tie.InvT-loop
 Inv-loop sheet k₀ k = Unit {0}
@@ -13,31 +9,24 @@ Inv-loop sheet k₀ k = Unit {0}
 abbrev μ-loop : tie.MeasureT-loop
 μ-loop sheet k₀ k = 4097 - k
 
--- src/main.rt:83:5
 loop-holds : tie.Need-loop-holds Inv-loop μ-loop
 loop-holds c = search needs
 
--- src/main.rt:83:23
 print-entry-requires : tie.Need-print-entry-requires Inv-loop μ-loop
 print-entry-requires c κs = search needs
 
--- src/main.rt:84:9
 add-k : tie.Need-add-k Inv-loop μ-loop
 add-k c = search needs
 
--- src/main.rt:83:5
 loop-less : tie.Need-loop-less Inv-loop μ-loop
 loop-less c = search needs
 
--- src/main.rt:83:5
 loop-again : tie.Need-loop-again Inv-loop μ-loop
 loop-again c = search needs
 
--- src/main.rt:81:1
 returns : tie.Need-returns Inv-loop μ-loop
 returns c = search needs
 
--- src/main.rt:81:1
 returns-2 : tie.Need-returns-2 Inv-loop μ-loop
 returns-2 c = search needs
 

@@ -4,46 +4,32 @@ use native.Mathlib.Omega.{arith}
 use borrow.Author.Needs.{needs}
 use Rattle.trace.proofs.trace_bytes.Statement.{statement}
 use Rattle.trace.proofs.trace_bytes.Tie as tie
-use Rattle.trace.proofs.trace_bytes.Reads as reads
-use Rattle.trace.proofs.trace_bytes.Lts as lts
-use Rattle.big_endian.proofs.words_of.Reads as words-of-reads
-use Rattle.trace.proofs.print_entries.Reads as print-entries-reads
-use Rattle.trace.proofs.print_refused.Reads as print-refused-reads
 
--- src/main.rt:92:9
 print-refused-requires : tie.Need-print-refused-requires
 print-refused-requires c κs = search needs
 
--- src/main.rt:93:9
 returns : tie.Need-returns
 returns c = search needs
 
--- src/main.rt:96:21
 words-of-requires : tie.Need-words-of-requires
 words-of-requires c κs = search needs
 
--- src/main.rt:97:23
 array-share-prefix-words : tie.Need-array-share-prefix-words
 array-share-prefix-words c = search needs
 
--- src/main.rt:97:23
 slice-aggregate-print-entries : tie.Need-slice-aggregate-print-entries
 slice-aggregate-print-entries c =
     let n = c .before .words-of .ensures .0 in sym (length-take-le _ (c .before .words-of .result) (omega (arith, n, c .before .before .before .if1 .left)))
 
--- src/main.rt:97:9
 print-entries-requires : tie.Need-print-entries-requires
 print-entries-requires c κs = search needs
 
--- src/main.rt:99:9
 print-refused-requires-2 : tie.Need-print-refused-requires-2
 print-refused-requires-2 c κs = search needs
 
--- src/main.rt:89:1
 returns-2 : tie.Need-returns-2
 returns-2 c = search needs
 
--- src/main.rt:89:1
 returns-3 : tie.Need-returns-3
 returns-3 c = search needs
 

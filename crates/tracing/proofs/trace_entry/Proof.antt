@@ -6,103 +6,76 @@ use native.Mathlib.Omega.{arith}
 use borrow.Author.Needs.{needs}
 use Rattle.tracing.proofs.trace_entry.Statement.{statement}
 use Rattle.tracing.proofs.trace_entry.Tie as tie
-use Rattle.tracing.proofs.trace_entry.Reads as reads
-use Rattle.tracing.proofs.trace_entry.Lts as lts
-use Rattle.sheet.proofs.run.Reads as run-reads
-use Rattle.tracing.proofs.line_of.Reads as line-of-reads
-use Rattle.words.proofs.entry_of.Reads as entry-of-reads
 
--- src/lib.rt:58:24
 add-run : tie.Need-add-run
 add-run c = search needs
 
--- src/lib.rt:58:9
 run-requires : tie.Need-run-requires
 run-requires c κs = search needs
 
--- src/lib.rt:61:26
 enum-known-v : tie.Need-enum-known-v
 enum-known-v c = search needs
 
--- src/lib.rt:63:21
 enum-told : tie.Need-enum-told
 enum-told c = search needs
 
--- src/lib.rt:63:21
 sub-if1 : tie.Need-sub-if1
 sub-if1 c =
     let a = c .before .before .before .before .args in
     let r = c .before .before .run in
     let w = accepted-run (now (a .sheet)) (a .k + 1) (r .result) (r .ensures) (c .enum-told .given .1) .sheet .whole-entries in omega arith
 
--- src/lib.rt:64:30
 mul-at : tie.Need-mul-at
 mul-at c = search needs
 
--- src/lib.rt:64:26
 add-at : tie.Need-add-at
 add-at c = search needs
 
--- src/lib.rt:65:34
 mul-entry-of : tie.Need-mul-entry-of
 mul-entry-of c = search needs
 
--- src/lib.rt:65:34
 shared-slice-read-entry-of : tie.Need-shared-slice-read-entry-of
 shared-slice-read-entry-of c = search needs
 
--- src/lib.rt:65:51
 add-entry-of : tie.Need-add-entry-of
 add-entry-of c = search needs
 
--- src/lib.rt:65:45
 mul-entry-of-2 : tie.Need-mul-entry-of-2
 mul-entry-of-2 c = search needs
 
--- src/lib.rt:65:45
 shared-slice-read-entry-of-2 : tie.Need-shared-slice-read-entry-of-2
 shared-slice-read-entry-of-2 c = search needs
 
--- src/lib.rt:65:66
 add-entry-of-2 : tie.Need-add-entry-of-2
 add-entry-of-2 c = search needs
 
--- src/lib.rt:65:60
 mul-entry-of-3 : tie.Need-mul-entry-of-3
 mul-entry-of-3 c = search needs
 
--- src/lib.rt:65:60
 shared-slice-read-entry-of-3 : tie.Need-shared-slice-read-entry-of-3
 shared-slice-read-entry-of-3 c = search needs
 
--- src/lib.rt:65:21
 entry-of-requires : tie.Need-entry-of-requires
 entry-of-requires c κs = search needs
 
--- src/lib.rt:66:25
 cast-q : tie.Need-cast-q
 cast-q c = search needs
 
--- src/lib.rt:69:42
 mul-line-of : tie.Need-mul-line-of
 mul-line-of c = search needs
 
--- src/lib.rt:69:42
 array-copy-out-line-of : tie.Need-array-copy-out-line-of
 array-copy-out-line-of c = search needs
 
--- src/lib.rt:69:31
 line-of-requires : tie.Need-line-of-requires
 line-of-requires c κs = search needs
 
--- src/lib.rt:54:1
 returns : tie.Need-returns
 returns c =
     let a = c .before .before .before .before .before .args in
     let r = c .before .before .before .run in
     refused-run (now (a .sheet)) (a .k) (r .result) _ (r .ensures) (c .before .v .given .1)
 
--- src/lib.rt:54:1
 returns-2 : tie.Need-returns-2
 returns-2 c =
     let a = c .before .before .before .before .before .before .before .before .before .before .before .before .before .before .args in
@@ -112,7 +85,6 @@ returns-2 c =
     line-after (now (a .sheet)) (a .k) (r .result) run (c .before .before .before .before .before .entry-of .result) (c .line-of .result) (omega (arith, c .before .before .before .before .before .before .before .before .before .if1 .taken))
     (c .before .before .before .before .before .entry-of .ensures) (c .line-of .ensures)
 
--- src/lib.rt:54:1
 returns-3 : tie.Need-returns-3
 returns-3 c =
     let a = c .before .before .before .before .before .args in

@@ -3,19 +3,15 @@ use borrow.Author.Needs.{needs}
 use Rattle.board.proofs.numbers.action_in.Statement.{statement}
 use Rattle.board.proofs.numbers.action_in.Tie as tie
 
--- src/numbers.rt:49:8
 array-read-if1 : tie.Need-array-read-if1
 array-read-if1 c = search needs
 
--- src/numbers.rt:50:9
 array-read-result : tie.Need-array-read-result
 array-read-result c = search needs
 
--- src/numbers.rt:46:1
 returns : tie.Need-returns
 returns c = simp (lt-ltb _ _ (c .if1 .taken))
 
--- src/numbers.rt:46:1
 returns-2 : tie.Need-returns-2
 returns-2 c = simp (le-ltb _ _ (c .if1 .left))
 

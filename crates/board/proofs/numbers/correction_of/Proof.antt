@@ -5,30 +5,24 @@ use borrow.Author.Needs.{needs}
 use Rattle.board.proofs.numbers.correction_of.Statement.{statement}
 use Rattle.board.proofs.numbers.correction_of.Tie as tie
 
--- src/numbers.rt:175:8
 outcome-requires : tie.Need-outcome-requires
 outcome-requires c κs = search needs
 
--- src/numbers.rt:176:34
 chosen-start-requires : tie.Need-chosen-start-requires
 chosen-start-requires c κs = search needs
 
--- src/numbers.rt:176:13
 reading-or-0-requires : tie.Need-reading-or-0-requires
 reading-or-0-requires c κs = search needs
 
--- src/numbers.rt:177:9
 difference-requires : tie.Need-difference-requires
 difference-requires c κs = search needs
 
--- src/numbers.rt:172:1
 returns : tie.Need-returns
 unfolding correction
 returns c =
     let two = sym (c .before .before .before .before .outcome .ensures) ∙ c .before .before .before .if1 .taken in
     _∙_ {b = c .difference .result} (search needs) (simp (two, c .difference .ensures, c .before .reading-or-0 .ensures, c .before .before .chosen-start .ensures))
 
--- src/numbers.rt:172:1
 returns-2 : tie.Need-returns-2
 returns-2 c = simp (ne-eqb (outcome _) 2 (λ two. c .if1 .left (c .before .outcome .ensures ∙ two)))
 

@@ -2,23 +2,18 @@ use borrow.Author.Needs.{needs}
 use Rattle.board.proofs.numbers.rows_after.Statement.{statement}
 use Rattle.board.proofs.numbers.rows_after.Tie as tie
 
--- src/numbers.rt:90:30
 enum-told : tie.Need-enum-told
 enum-told c = search needs
 
--- src/numbers.rt:90:30
 rows-of-requires : tie.Need-rows-of-requires
 rows-of-requires c κs = search needs
 
--- src/numbers.rt:91:32
 enum-told-2 : tie.Need-enum-told-2
 enum-told-2 c = search needs
 
--- src/numbers.rt:84:1
 returns : tie.Need-returns
 returns c = simp (c .rows-of .ensures, c .before .enum-told .given .1)
 
--- src/numbers.rt:84:1
 returns-2 : tie.Need-returns-2
 returns-2 c = simp (c .enum-told2 .given .1)
 

@@ -3,24 +3,19 @@ use borrow.Author.Needs.{needs}
 use Rattle.board.proofs.numbers.rows_step.Statement.{statement}
 use Rattle.board.proofs.numbers.rows_step.Tie as tie
 
--- src/numbers.rt:75:9
 record-in-requires : tie.Need-record-in-requires
 record-in-requires c κs = search needs
 
--- src/numbers.rt:76:8
 rows-fit-requires : tie.Need-rows-fit-requires
 rows-fit-requires c κs = search needs
 
--- src/numbers.rt:77:9
 step-requires : tie.Need-step-requires
 step-requires c κs = search needs
 
--- src/numbers.rt:72:1
 returns : tie.Need-returns
 unfolding rowsStep
 returns c = simp (c .step .ensures, c .before .if1 .taken, ← c .before .before .rows-fit .ensures, c .before .before .before .record-in .ensures)
 
--- src/numbers.rt:72:1
 returns-2 : tie.Need-returns-2
 unfolding rowsStep
 returns-2 c = simp (c .if1 .left, ← c .before .rows-fit .ensures, c .before .before .record-in .ensures)

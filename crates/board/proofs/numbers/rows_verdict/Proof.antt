@@ -4,33 +4,27 @@ use borrow.Author.Needs.{needs}
 use Rattle.board.proofs.numbers.rows_verdict.Statement.{statement}
 use Rattle.board.proofs.numbers.rows_verdict.Tie as tie
 
--- src/numbers.rt:137:8
 rows-fit-requires : tie.Need-rows-fit-requires
 rows-fit-requires c κs = search needs
 
--- src/numbers.rt:138:28
 record-in-requires : tie.Need-record-in-requires
 record-in-requires c κs = search needs
 
--- src/numbers.rt:138:12
 record-in-range-requires : tie.Need-record-in-range-requires
 record-in-range-requires c κs = search needs
 
--- src/numbers.rt:139:13
 returns : tie.Need-returns
 unfolding rowsVerdict
 returns c =
     let kept = rw (c .before .before .record-in .ensures) at (sym (c .before .record-in-range .ensures) ∙ c .if2 .taken) in
     simp (kept, c .before .before .before .if1 .taken, ← c .before .before .before .before .rows-fit .ensures)
 
--- src/numbers.rt:134:1
 returns-2 : tie.Need-returns-2
 unfolding rowsVerdict
 returns-2 c =
     let left = rw (c .before .before .record-in .ensures) at (sym (c .before .record-in-range .ensures) ∙ c .if2 .left) in
     simp (left, c .before .before .before .if1 .taken, ← c .before .before .before .before .rows-fit .ensures)
 
--- src/numbers.rt:134:1
 returns-3 : tie.Need-returns-3
 unfolding rowsVerdict
 returns-3 c = simp (c .if1 .left, ← c .before .rows-fit .ensures)

@@ -2,19 +2,15 @@ use borrow.Author.Needs.{needs}
 use Rattle.board.proofs.numbers.seat_in.Statement.{statement}
 use Rattle.board.proofs.numbers.seat_in.Tie as tie
 
--- src/numbers.rt:43:15
 byte-in-requires : tie.Need-byte-in-requires
 byte-in-requires c κs = search needs
 
--- src/numbers.rt:43:30
 byte-in-requires-2 : tie.Need-byte-in-requires-2
 byte-in-requires-2 c κs = search needs
 
--- src/numbers.rt:43:47
 byte-in-requires-3 : tie.Need-byte-in-requires-3
 byte-in-requires-3 c κs = search needs
 
--- src/numbers.rt:40:1
 returns : tie.Need-returns
 returns c = simp (c .byte-in3 .ensures, c .before .byte-in2 .ensures, c .before .before .byte-in .ensures)
 

@@ -2,19 +2,15 @@ use borrow.Author.Needs.{needs}
 use Rattle.board.proofs.numbers.vote_numbers.Statement.{statement}
 use Rattle.board.proofs.numbers.vote_numbers.Tie as tie
 
--- src/numbers.rt:117:38
 enum-told : tie.Need-enum-told
 enum-told c = search needs
 
--- src/numbers.rt:118:33
 enum-known-x : tie.Need-enum-known-x
 enum-known-x c = search needs
 
--- src/numbers.rt:113:1
 returns : tie.Need-returns
 returns c = simp (c .enum-told .given .1)
 
--- src/numbers.rt:113:1
 returns-2 : tie.Need-returns-2
 returns-2 c = simp (c .before .x .given .1)
 

@@ -3,15 +3,12 @@ use borrow.Author.Needs.{needs}
 use Rattle.image.proofs.reads.byte_in.Statement.{statement}
 use Rattle.image.proofs.reads.byte_in.Tie as tie
 
--- src/reads.rt:14:9
 cast-result : tie.Need-cast-result
 cast-result c = search needs
 
--- src/reads.rt:10:1
 returns : tie.Need-returns
 returns c = simp (lt-ltb _ _ (c .if1 .taken))
 
--- src/reads.rt:10:1
 returns-2 : tie.Need-returns-2
 returns-2 c = simp (le-ltb _ _ (c .if1 .left))
 

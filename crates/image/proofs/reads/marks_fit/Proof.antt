@@ -4,20 +4,16 @@ use borrow.Author.Needs.{needs}
 use Rattle.image.proofs.reads.marks_fit.Statement.{statement}
 use Rattle.image.proofs.reads.marks_fit.Tie as tie
 
--- src/reads.rt:97:5
 array-read-if1 : tie.Need-array-read-if1
 array-read-if1 c = search needs
 
--- src/reads.rt:97:19
 array-read-result : tie.Need-array-read-result
 array-read-result c = search needs
 
--- src/reads.rt:94:1
 returns : tie.Need-returns
 unfolding marksFit
 returns c = simp (lt-ltb _ _ (c .if1 .taken))
 
--- src/reads.rt:94:1
 returns-2 : tie.Need-returns-2
 unfolding marksFit
 returns-2 c = simp (le-ltb _ _ (c .if1 .left))

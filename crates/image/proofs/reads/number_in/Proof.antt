@@ -3,19 +3,15 @@ use borrow.Author.Needs.{needs}
 use Rattle.image.proofs.reads.number_in.Statement.{statement}
 use Rattle.image.proofs.reads.number_in.Tie as tie
 
--- src/reads.rt:26:39
 sub-byte-in : tie.Need-sub-byte-in
 sub-byte-in c = search needs
 
--- src/reads.rt:26:31
 byte-in-requires : tie.Need-byte-in-requires
 byte-in-requires c κs = search needs
 
--- src/reads.rt:20:1
 returns : tie.Need-returns
 returns c = simp (eq-eqb _ _ (c .if1 .taken))
 
--- src/reads.rt:20:1
 returns-2 : tie.Need-returns-2
 returns-2 c = simp (c .byte-in .ensures, ne-eqb _ _ (c .before .if1 .left))
 

@@ -2,31 +2,24 @@ use borrow.Author.Needs.{needs}
 use Rattle.image.proofs.reads.phase_in.Statement.{statement}
 use Rattle.image.proofs.reads.phase_in.Tie as tie
 
--- src/reads.rt:43:28
 array-read-number-in : tie.Need-array-read-number-in
 array-read-number-in c = search needs
 
--- src/reads.rt:43:9
 number-in-requires : tie.Need-number-in-requires
 number-in-requires c κs = search needs
 
--- src/reads.rt:44:19
 array-read-t6 : tie.Need-array-read-t6
 array-read-t6 c = search needs
 
--- src/reads.rt:44:40
 array-read-t12 : tie.Need-array-read-t12
 array-read-t12 c = search needs
 
--- src/reads.rt:44:75
 array-read-byte-in : tie.Need-array-read-byte-in
 array-read-byte-in c = search needs
 
--- src/reads.rt:44:67
 byte-in-requires : tie.Need-byte-in-requires
 byte-in-requires c κs = search needs
 
--- src/reads.rt:40:1
 returns : tie.Need-returns
 returns c = simp (c .byte-in .ensures, c .before .number-in .ensures)
 

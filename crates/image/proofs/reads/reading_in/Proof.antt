@@ -3,15 +3,12 @@ use borrow.Author.Needs.{needs}
 use Rattle.image.proofs.reads.reading_in.Statement.{statement}
 use Rattle.image.proofs.reads.reading_in.Tie as tie
 
--- src/reads.rt:36:41
 sub-t4 : tie.Need-sub-t4
 sub-t4 c = search needs
 
--- src/reads.rt:30:1
 returns : tie.Need-returns
 returns c = simp (eq-eqb _ _ (c .if1 .taken))
 
--- src/reads.rt:30:1
 returns-2 : tie.Need-returns-2
 returns-2 c = simp (ne-eqb _ _ (c .if1 .left))
 

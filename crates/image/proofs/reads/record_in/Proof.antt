@@ -3,75 +3,57 @@ use borrow.Author.Needs.{needs}
 use Rattle.image.proofs.reads.record_in.Statement.{statement}
 use Rattle.image.proofs.reads.record_in.Tie as tie
 
--- src/reads.rt:75:13
 array-copy-out-a : tie.Need-array-copy-out-a
 array-copy-out-a c = search needs
 
--- src/reads.rt:76:13
 array-copy-out-b : tie.Need-array-copy-out-b
 array-copy-out-b c = search needs
 
--- src/reads.rt:77:25
 array-copy-out-phase-in : tie.Need-array-copy-out-phase-in
 array-copy-out-phase-in c = search needs
 
--- src/reads.rt:77:9
 phase-in-requires : tie.Need-phase-in-requires
 phase-in-requires c κs = search needs
 
--- src/reads.rt:78:27
 array-copy-out-phase-in-2 : tie.Need-array-copy-out-phase-in-2
 array-copy-out-phase-in-2 c = search needs
 
--- src/reads.rt:78:9
 phase-in-requires-2 : tie.Need-phase-in-requires-2
 phase-in-requires-2 c κs = search needs
 
--- src/reads.rt:79:9
 senders-in-requires : tie.Need-senders-in-requires
 senders-in-requires c κs = search needs
 
--- src/reads.rt:81:20
 array-read-byte-in : tie.Need-array-read-byte-in
 array-read-byte-in c = search needs
 
--- src/reads.rt:81:12
 byte-in-requires : tie.Need-byte-in-requires
 byte-in-requires c κs = search needs
 
--- src/reads.rt:82:20
 array-read-byte-in-2 : tie.Need-array-read-byte-in-2
 array-read-byte-in-2 c = search needs
 
--- src/reads.rt:82:12
 byte-in-requires-2 : tie.Need-byte-in-requires-2
 byte-in-requires-2 c κs = search needs
 
--- src/reads.rt:83:22
 array-read-byte-in-3 : tie.Need-array-read-byte-in-3
 array-read-byte-in-3 c = search needs
 
--- src/reads.rt:83:14
 byte-in-requires-3 : tie.Need-byte-in-requires-3
 byte-in-requires-3 c κs = search needs
 
--- src/reads.rt:84:23
 array-read-t32 : tie.Need-array-read-t32
 array-read-t32 c = search needs
 
--- src/reads.rt:85:18
 array-read-t36 : tie.Need-array-read-t36
 array-read-t36 c = search needs
 
--- src/reads.rt:86:20
 array-read-t40 : tie.Need-array-read-t40
 array-read-t40 c = search needs
 
--- src/reads.rt:89:29
 array-read-t44 : tie.Need-array-read-t44
 array-read-t44 c = search needs
 
--- src/reads.rt:72:1
 returns : tie.Need-returns
 unfolding recordIn
 returns c = simp (c .byte-in3 .ensures, c .before .byte-in2 .ensures, c .before .before .byte-in .ensures, c .before .before .before .senders-in .ensures, c .before .before .before .before .phase-in2 .ensures, c .before .before .before .before .before .before .phase-in .ensures)

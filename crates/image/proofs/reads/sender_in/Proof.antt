@@ -2,39 +2,30 @@ use borrow.Author.Needs.{needs}
 use Rattle.image.proofs.reads.sender_in.Statement.{statement}
 use Rattle.image.proofs.reads.sender_in.Tie as tie
 
--- src/reads.rt:50:28
 array-read-reading-in : tie.Need-array-read-reading-in
 array-read-reading-in c = search needs
 
--- src/reads.rt:50:9
 reading-in-requires : tie.Need-reading-in-requires
 reading-in-requires c κs = search needs
 
--- src/reads.rt:51:27
 array-read-reading-in-2 : tie.Need-array-read-reading-in-2
 array-read-reading-in-2 c = search needs
 
--- src/reads.rt:51:9
 reading-in-requires-2 : tie.Need-reading-in-requires-2
 reading-in-requires-2 c κs = search needs
 
--- src/reads.rt:52:27
 array-read-number-in : tie.Need-array-read-number-in
 array-read-number-in c = search needs
 
--- src/reads.rt:52:9
 number-in-requires : tie.Need-number-in-requires
 number-in-requires c κs = search needs
 
--- src/reads.rt:53:30
 array-read-number-in-2 : tie.Need-array-read-number-in-2
 array-read-number-in-2 c = search needs
 
--- src/reads.rt:53:9
 number-in-requires-2 : tie.Need-number-in-requires-2
 number-in-requires-2 c κs = search needs
 
--- src/reads.rt:47:1
 returns : tie.Need-returns
 returns c = simp (c .number-in2 .ensures, c .before .number-in .ensures, c .before .before .reading-in2 .ensures, c .before .before .before .reading-in .ensures)
 

@@ -17,47 +17,36 @@ Inv-loop rows l₀ i₀ l i =
 abbrev μ-loop : tie.MeasureT-loop
 μ-loop rows l₀ i₀ l i = 16 - i
 
--- src/reads.rt:60:9
 sender-in-requires : tie.Need-sender-in-requires Inv-loop μ-loop
 sender-in-requires c κs = search needs
 
--- src/reads.rt:63:5
 loop-holds : tie.Need-loop-holds Inv-loop μ-loop
 loop-holds c = (omega arith, refl, λ k lt. absurd (omega arith))
 
--- src/reads.rt:64:32
 add-sender-in : tie.Need-add-sender-in Inv-loop μ-loop
 add-sender-in c = search needs
 
--- src/reads.rt:64:27
 mul-sender-in : tie.Need-mul-sender-in Inv-loop μ-loop
 mul-sender-in c = search needs
 
--- src/reads.rt:64:27
 array-copy-out-sender-in : tie.Need-array-copy-out-sender-in Inv-loop μ-loop
 array-copy-out-sender-in c = search needs
 
--- src/reads.rt:64:13
 sender-in-requires-2 : tie.Need-sender-in-requires-2 Inv-loop μ-loop
 sender-in-requires-2 c κs = search needs
 
--- src/reads.rt:65:9
 mul-l : tie.Need-mul-l Inv-loop μ-loop
 mul-l c = search needs
 
--- src/reads.rt:65:9
 array-set-from-l : tie.Need-array-set-from-l Inv-loop μ-loop
 array-set-from-l c = search needs
 
--- src/reads.rt:66:9
 add-i : tie.Need-add-i Inv-loop μ-loop
 add-i c = search needs
 
--- src/reads.rt:63:5
 loop-less : tie.Need-loop-less Inv-loop μ-loop
 loop-less c = search needs
 
--- src/reads.rt:63:5
 loop-again : tie.Need-loop-again Inv-loop μ-loop
 loop-again c =
     let rows = c .before .before .before .before .before .args .t1 in
@@ -66,7 +55,6 @@ loop-again c =
     let inv = c .before .before .before .loop .inv in
     (omega arith, length-set l i _ ∙ inv .1, fill-next (λ k. senderIn (getD rows (k + 4) [])) l i _ noSender (omega (arith, inv .1)) (c .sender-in2 .ensures) (inv .2))
 
--- src/reads.rt:57:1
 returns : tie.Need-returns Inv-loop μ-loop
 returns c =
     let rows = c .before .before .before .args .t1 in

@@ -3,27 +3,21 @@ use borrow.Author.Needs.{needs}
 use Rattle.image.proofs.writes.reading_word.Statement.{statement}
 use Rattle.image.proofs.writes.reading_word.Tie as tie
 
--- src/writes.rt:21:34
 enum-told : tie.Need-enum-told
 enum-told c = search needs
 
--- src/writes.rt:22:33
 enum-known-k : tie.Need-enum-known-k
 enum-known-k c = search needs
 
--- src/writes.rt:24:17
 add-result : tie.Need-add-result
 add-result c = search needs
 
--- src/writes.rt:17:1
 returns : tie.Need-returns
 returns c = simp (c .enum-told .given .1)
 
--- src/writes.rt:17:1
 returns-2 : tie.Need-returns-2
 returns-2 c = simp (lt-ltb _ _ (c .before .if1 .taken), c .before .before .before .before .k .given .1)
 
--- src/writes.rt:17:1
 returns-3 : tie.Need-returns-3
 returns-3 c = simp (le-ltb _ _ (c .if1 .left), c .before .before .before .k .given .1)
 

@@ -15,46 +15,36 @@ Inv-loop senders out₀ i₀ out i =
 abbrev μ-loop : tie.MeasureT-loop
 μ-loop senders out₀ i₀ out i = 16 - i
 
--- src/writes.rt:88:5
 loop-holds : tie.Need-loop-holds Inv-loop μ-loop
 loop-holds c =
     let long : length (c .args .rows) ≡ 20 = search needs in
     let short : length (c .args .t2) ≡ 16 = search needs in
     (omega arith, long, λ k lt. first-there (c .args .rows) (c .args .t2) long short k lt)
 
--- src/writes.rt:89:17
 mul-k : tie.Need-mul-k Inv-loop μ-loop
 mul-k c = search needs
 
--- src/writes.rt:89:17
 array-copy-out-k : tie.Need-array-copy-out-k Inv-loop μ-loop
 array-copy-out-k c = search needs
 
--- src/writes.rt:90:13
 sender-row-requires : tie.Need-sender-row-requires Inv-loop μ-loop
 sender-row-requires c κs = search needs
 
--- src/writes.rt:91:13
 add-out : tie.Need-add-out Inv-loop μ-loop
 add-out c = search needs
 
--- src/writes.rt:91:9
 mul-out : tie.Need-mul-out Inv-loop μ-loop
 mul-out c = search needs
 
--- src/writes.rt:91:9
 array-set-from-out : tie.Need-array-set-from-out Inv-loop μ-loop
 array-set-from-out c = search needs
 
--- src/writes.rt:92:9
 add-i : tie.Need-add-i Inv-loop μ-loop
 add-i c = search needs
 
--- src/writes.rt:88:5
 loop-less : tie.Need-loop-less Inv-loop μ-loop
 loop-less c = search needs
 
--- src/writes.rt:88:5
 loop-again : tie.Need-loop-again Inv-loop μ-loop
 loop-again c =
     let start = c .before .before .before .before in
@@ -69,7 +59,6 @@ loop-again c =
       λ k lt. fill-next (λ j. getD (wanted (start .args .rows) (start .args .t2)) j []) out (i + 4) _ [] (omega (arith, inv .1)) next (inv .2) k (omega arith),
     )
 
--- src/writes.rt:83:1
 returns : tie.Need-returns Inv-loop μ-loop
 returns c =
     let start = c .before .before in

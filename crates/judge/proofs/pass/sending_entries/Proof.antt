@@ -14,45 +14,35 @@ Inv-loop sent l₀ j₀ l j = (j ≤ 512) × (length l ≡ 512) × ((k : ℕ) �
 abbrev μ-loop : tie.MeasureT-loop
 μ-loop sent l₀ j₀ l j = 512 - j
 
--- src/pass.rt:59:5
 loop-holds : tie.Need-loop-holds Inv-loop μ-loop
 loop-holds c = (search needs, refl, λ k lt. absurd (omega arith))
 
--- src/pass.rt:60:17
 mul-x : tie.Need-mul-x Inv-loop μ-loop
 mul-x c = search needs
 
--- src/pass.rt:60:17
 array-copy-out-x : tie.Need-array-copy-out-x Inv-loop μ-loop
 array-copy-out-x c = search needs
 
--- src/pass.rt:62:16
 sending-entry-requires : tie.Need-sending-entry-requires Inv-loop μ-loop
 sending-entry-requires c κs = search needs
 
--- src/pass.rt:62:9
 mul-l : tie.Need-mul-l Inv-loop μ-loop
 mul-l c = search needs
 
--- src/pass.rt:62:9
 array-write-l : tie.Need-array-write-l Inv-loop μ-loop
 array-write-l c = search needs
 
--- src/pass.rt:63:9
 add-j : tie.Need-add-j Inv-loop μ-loop
 add-j c = search needs
 
--- src/pass.rt:59:5
 loop-less : tie.Need-loop-less Inv-loop μ-loop
 loop-less c = search needs
 
--- src/pass.rt:59:5
 loop-again : tie.Need-loop-again Inv-loop μ-loop
 loop-again c =
     let L = c .before .before .before .loop in
     (omega arith, simp length-set (L .inv .1), fill-next (sendingAt (c .before .before .before .before .args .t1)) (L .l) (L .j) (c .sending-entry .result) 0 (omega arith) (c .sending-entry .ensures) (L .inv .2))
 
--- src/pass.rt:54:1
 returns : tie.Need-returns Inv-loop μ-loop
 returns c = let inv = c .before .loop .inv in is-table (sendingAt (c .before .before .args .t1)) 512 0 (c .before .loop .l) (inv .1) (λ k lt. inv .2 k (omega arith))
 

@@ -27,277 +27,209 @@ abbrev μ-loop : tie.MeasureT-loop
 μ-loop sheet g count sending took₀ received₀ started₀ leads₀ lags₀ steady₀ heard₀ votes₀ adjusts₀ i₀ took received started leads lags steady heard votes adjusts i =
     count - i
 
--- src/pass.rt:93:9
 unwatched-requires : tie.Need-unwatched-requires Inv-loop μ-loop
 unwatched-requires c κs = search needs
 
--- src/pass.rt:94:9
 unwatched-requires-2 : tie.Need-unwatched-requires-2 Inv-loop μ-loop
 unwatched-requires-2 c κs = search needs
 
--- src/pass.rt:96:5
 loop-holds : tie.Need-loop-holds Inv-loop μ-loop
 loop-holds c =
     let first = first-keeps (now (c .before .before .before .before .args .sheet)) (c .before .before .before .before .args .g) in
     (omega arith, refl, length-replicate {A = ℕ} 4096 0, length-replicate {A = ℕ} 256 0, refl, refl, rw (c .before .unwatched .ensures, c .unwatched2 .ensures) first)
 
--- src/pass.rt:97:22
 mul-at : tie.Need-mul-at Inv-loop μ-loop
 mul-at c = search needs
 
--- src/pass.rt:97:18
 add-at : tie.Need-add-at Inv-loop μ-loop
 add-at c = search needs
 
--- src/pass.rt:98:26
 mul-entry-of : tie.Need-mul-entry-of Inv-loop μ-loop
 mul-entry-of c = search needs
 
--- src/pass.rt:98:26
 shared-slice-read-entry-of : tie.Need-shared-slice-read-entry-of Inv-loop μ-loop
 shared-slice-read-entry-of c = search needs
 
--- src/pass.rt:98:43
 add-entry-of : tie.Need-add-entry-of Inv-loop μ-loop
 add-entry-of c = search needs
 
--- src/pass.rt:98:37
 mul-entry-of-2 : tie.Need-mul-entry-of-2 Inv-loop μ-loop
 mul-entry-of-2 c = search needs
 
--- src/pass.rt:98:37
 shared-slice-read-entry-of-2 : tie.Need-shared-slice-read-entry-of-2 Inv-loop μ-loop
 shared-slice-read-entry-of-2 c = search needs
 
--- src/pass.rt:98:58
 add-entry-of-2 : tie.Need-add-entry-of-2 Inv-loop μ-loop
 add-entry-of-2 c = search needs
 
--- src/pass.rt:98:52
 mul-entry-of-3 : tie.Need-mul-entry-of-3 Inv-loop μ-loop
 mul-entry-of-3 c = search needs
 
--- src/pass.rt:98:52
 shared-slice-read-entry-of-3 : tie.Need-shared-slice-read-entry-of-3 Inv-loop μ-loop
 shared-slice-read-entry-of-3 c = search needs
 
--- src/pass.rt:98:13
 entry-of-requires : tie.Need-entry-of-requires Inv-loop μ-loop
 entry-of-requires c κs = search needs
 
--- src/pass.rt:99:13
 is-correct-requires : tie.Need-is-correct-requires Inv-loop μ-loop
 is-correct-requires c κs = search needs
 
--- src/pass.rt:100:13
 seat-requires : tie.Need-seat-requires Inv-loop μ-loop
 seat-requires c κs = search needs
 
--- src/pass.rt:101:61
 mul-stays-steady : tie.Need-mul-stays-steady Inv-loop μ-loop
 mul-stays-steady c = search needs
 
--- src/pass.rt:101:61
 array-copy-out-stays-steady : tie.Need-array-copy-out-stays-steady Inv-loop μ-loop
 array-copy-out-stays-steady c = search needs
 
--- src/pass.rt:101:71
 mul-stays-steady-2 : tie.Need-mul-stays-steady-2 Inv-loop μ-loop
 mul-stays-steady-2 c = search needs
 
--- src/pass.rt:101:71
 array-copy-out-stays-steady-2 : tie.Need-array-copy-out-stays-steady-2 Inv-loop μ-loop
 array-copy-out-stays-steady-2 c = search needs
 
--- src/pass.rt:101:27
 stays-steady-requires : tie.Need-stays-steady-requires Inv-loop μ-loop
 stays-steady-requires c κs = search needs
 
--- src/pass.rt:102:27
 mul-lesser : tie.Need-mul-lesser Inv-loop μ-loop
 mul-lesser c = search needs
 
--- src/pass.rt:102:27
 array-copy-out-lesser : tie.Need-array-copy-out-lesser Inv-loop μ-loop
 array-copy-out-lesser c = search needs
 
--- src/pass.rt:102:37
 lead-requires : tie.Need-lead-requires Inv-loop μ-loop
 lead-requires c κs = search needs
 
--- src/pass.rt:102:20
 lesser-requires : tie.Need-lesser-requires Inv-loop μ-loop
 lesser-requires c κs = search needs
 
--- src/pass.rt:102:9
 mul-leads : tie.Need-mul-leads Inv-loop μ-loop
 mul-leads c = search needs
 
--- src/pass.rt:102:9
 array-set-from-leads : tie.Need-array-set-from-leads Inv-loop μ-loop
 array-set-from-leads c = search needs
 
--- src/pass.rt:103:26
 mul-lesser-2 : tie.Need-mul-lesser-2 Inv-loop μ-loop
 mul-lesser-2 c = search needs
 
--- src/pass.rt:103:26
 array-copy-out-lesser-2 : tie.Need-array-copy-out-lesser-2 Inv-loop μ-loop
 array-copy-out-lesser-2 c = search needs
 
--- src/pass.rt:103:35
 lag-requires : tie.Need-lag-requires Inv-loop μ-loop
 lag-requires c κs = search needs
 
--- src/pass.rt:103:19
 lesser-requires-2 : tie.Need-lesser-requires-2 Inv-loop μ-loop
 lesser-requires-2 c κs = search needs
 
--- src/pass.rt:103:9
 mul-lags : tie.Need-mul-lags Inv-loop μ-loop
 mul-lags c = search needs
 
--- src/pass.rt:103:9
 array-set-from-lags : tie.Need-array-set-from-lags Inv-loop μ-loop
 array-set-from-lags c = search needs
 
--- src/pass.rt:104:13
 receivers-place-requires : tie.Need-receivers-place-requires Inv-loop μ-loop
 receivers-place-requires c κs = search needs
 
--- src/pass.rt:105:43
 array-read-start-heard : tie.Need-array-read-start-heard Inv-loop μ-loop
 array-read-start-heard c = search needs
 
--- src/pass.rt:105:52
 mul-start-heard : tie.Need-mul-start-heard Inv-loop μ-loop
 mul-start-heard c = search needs
 
--- src/pass.rt:105:52
 array-read-start-heard-2 : tie.Need-array-read-start-heard-2 Inv-loop μ-loop
 array-read-start-heard-2 c = search needs
 
--- src/pass.rt:105:65
 slice-aggregate-start-heard : tie.Need-slice-aggregate-start-heard Inv-loop μ-loop
 slice-aggregate-start-heard c = sym (c .before .before .before .before .before .before .before .before .before .before .before .before .before .before .before .before .before .before .loop .inv .3)
 
--- src/pass.rt:105:25
 start-heard-requires : tie.Need-start-heard-requires Inv-loop μ-loop
 start-heard-requires c κs = search needs
 
--- src/pass.rt:107:61
 slice-aggregate-phase-heard : tie.Need-slice-aggregate-phase-heard Inv-loop μ-loop
 slice-aggregate-phase-heard c = sym (c .before .before .before .before .before .before .before .before .before .before .before .before .before .before .before .before .before .before .before .before .before .before .loop .inv .1)
 
--- src/pass.rt:107:68
 slice-aggregate-phase-heard-2 : tie.Need-slice-aggregate-phase-heard-2 Inv-loop μ-loop
 slice-aggregate-phase-heard-2 c = sym (c .before .before .before .before .before .before .before .before .before .before .before .before .before .before .before .before .before .before .before .before .before .before .before .loop .inv .2)
 
--- src/pass.rt:107:13
 phase-heard-requires : tie.Need-phase-heard-requires Inv-loop μ-loop
 phase-heard-requires c κs = search needs
 
--- src/pass.rt:108:9
 watch-after-requires : tie.Need-watch-after-requires Inv-loop μ-loop
 watch-after-requires c κs = search needs
 
--- src/pass.rt:110:61
 slice-aggregate-phase-heard-3 : tie.Need-slice-aggregate-phase-heard-3 Inv-loop μ-loop
 slice-aggregate-phase-heard-3 c = sym (c .before .before .before .before .before .before .before .before .before .before .before .before .before .before .before .before .before .before .before .before .before .before .before .before .before .before .before .before .before .loop .inv .1)
 
--- src/pass.rt:110:68
 slice-aggregate-phase-heard-4 : tie.Need-slice-aggregate-phase-heard-4 Inv-loop μ-loop
 slice-aggregate-phase-heard-4 c = sym (c .before .before .before .before .before .before .before .before .before .before .before .before .before .before .before .before .before .before .before .before .before .before .before .before .before .before .before .before .before .before .loop .inv .2)
 
--- src/pass.rt:110:13
 phase-heard-requires-2 : tie.Need-phase-heard-requires-2 Inv-loop μ-loop
 phase-heard-requires-2 c κs = search needs
 
--- src/pass.rt:111:9
 watch-after-requires-2 : tie.Need-watch-after-requires-2 Inv-loop μ-loop
 watch-after-requires-2 c κs = search needs
 
--- src/pass.rt:112:13
 seat-requires-2 : tie.Need-seat-requires-2 Inv-loop μ-loop
 seat-requires-2 c κs = search needs
 
--- src/pass.rt:113:29
 mul-with-head : tie.Need-mul-with-head Inv-loop μ-loop
 mul-with-head c = search needs
 
--- src/pass.rt:113:29
 array-read-with-head : tie.Need-array-read-with-head Inv-loop μ-loop
 array-read-with-head c = search needs
 
--- src/pass.rt:113:19
 with-head-requires : tie.Need-with-head-requires Inv-loop μ-loop
 with-head-requires c κs = search needs
 
--- src/pass.rt:113:9
 mul-took : tie.Need-mul-took Inv-loop μ-loop
 mul-took c = search needs
 
--- src/pass.rt:113:9
 array-write-took : tie.Need-array-write-took Inv-loop μ-loop
 array-write-took c = search needs
 
--- src/pass.rt:114:13
 receivers-place-requires-2 : tie.Need-receivers-place-requires-2 Inv-loop μ-loop
 receivers-place-requires-2 c κs = search needs
 
--- src/pass.rt:115:33
 mul-with-head-2 : tie.Need-mul-with-head-2 Inv-loop μ-loop
 mul-with-head-2 c = record { fits = omega (arith, c .receivers-place2 .ensures .1) }
 
--- src/pass.rt:115:33
 array-read-with-head-2 : tie.Need-array-read-with-head-2 Inv-loop μ-loop
 array-read-with-head-2 c = search needs
 
--- src/pass.rt:115:23
 with-head-requires-2 : tie.Need-with-head-requires-2 Inv-loop μ-loop
 with-head-requires-2 c κs = search needs
 
--- src/pass.rt:115:9
 mul-received : tie.Need-mul-received Inv-loop μ-loop
 mul-received c = record { fits = omega (arith, c .before .receivers-place2 .ensures .1) }
 
--- src/pass.rt:115:9
 array-write-received : tie.Need-array-write-received Inv-loop μ-loop
 array-write-received c = search needs
 
--- src/pass.rt:116:13
 start-place-requires : tie.Need-start-place-requires Inv-loop μ-loop
 start-place-requires c κs = search needs
 
--- src/pass.rt:117:36
 mul-start-time : tie.Need-mul-start-time Inv-loop μ-loop
 mul-start-time c = record { fits = omega (arith, c .start-place .ensures .1) }
 
--- src/pass.rt:117:36
 array-read-start-time : tie.Need-array-read-start-time Inv-loop μ-loop
 array-read-start-time c = search needs
 
--- src/pass.rt:117:22
 start-time-requires : tie.Need-start-time-requires Inv-loop μ-loop
 start-time-requires c κs = search needs
 
--- src/pass.rt:117:9
 mul-started : tie.Need-mul-started Inv-loop μ-loop
 mul-started c = record { fits = omega (arith, c .before .start-place .ensures .1) }
 
--- src/pass.rt:117:9
 array-write-started : tie.Need-array-write-started Inv-loop μ-loop
 array-write-started c = search needs
 
--- src/pass.rt:118:9
 add-i : tie.Need-add-i Inv-loop μ-loop
 add-i c = omega (arith, c .before .before .before .before .before .before .before .before .before .before .before .before .before .before .before .before .before .before .before .before .before .before .before .before .before .before .before .before .before .before .before .before .before .before .before .before .before .before .loop-test .taken, c .before .before .before .before .before .before .before .before .before .before .before .before .before .before .before .before .before .before .before .before .before .before .before .before .before .before .before .before .before .before .before .before .before .before .before .before .before .before .before .before .before .before .before .before .pre)
 
--- src/pass.rt:96:5
 loop-less : tie.Need-loop-less Inv-loop μ-loop
 loop-less c = omega (arith, c .before .before .before .before .before .before .before .before .before .before .before .before .before .before .before .before .before .before .before .before .before .before .before .before .before .before .before .before .before .before .before .before .before .before .before .before .before .before .loop-test .taken)
 
--- src/pass.rt:96:5
 loop-again : tie.Need-loop-again Inv-loop μ-loop
 loop-again c =
     let c10 = c .before .before .before .before .before .before .before .before .before .before in
@@ -327,7 +259,6 @@ loop-again c =
     (c .before .before .before .before .before .seat2 .ensures) (c .before .before .before .before .with-head .ensures) (c .before .before .before .receivers-place2 .ensures .0) (c .before .before .with-head2 .ensures) (c .before .start-place .ensures .0) (c .start-time .ensures) in
     (omega (arith, c30 .before .before .before .before .before .before .before .before .loop-test .taken), simp length-set (L .inv .1), simp length-set (L .inv .2), simp length-set (L .inv .3), simp length-set (L .inv .4), simp length-set (L .inv .5), next)
 
--- src/pass.rt:82:1
 returns : tie.Need-returns Inv-loop μ-loop
 returns c =
     let A = c .before .before .before .before .before .before .args in
