@@ -37,6 +37,11 @@ static void print_head(const uint32_t *w)
            (unsigned)bits(w[0], 12), (unsigned long)adjustment, (unsigned long)start, (long)adjustment - (long)start);
 }
 
+static void print_refusal(const char *what, uint32_t cause, uint32_t place)
+{
+    printf("%s %lu %lu\n", what, (unsigned long)cause, (unsigned long)place);
+}
+
 static void show(size_t out_words)
 {
     uint32_t out[3 * HEADS], answer[DAISARNICA_ANSWER_NUMBERS];
@@ -46,11 +51,11 @@ static void show(size_t out_words)
     if (answer[DAISARNICA_REPLAY_CAUSE] == 0)
         for (q = 0; q < HEADS; q++) print_head(out + 3 * q);
     else
-        printf("refused %lu %lu\n", (unsigned long)answer[DAISARNICA_REPLAY_CAUSE], (unsigned long)answer[DAISARNICA_REPLAY_PLACE]);
+        print_refusal("refused", answer[DAISARNICA_REPLAY_CAUSE], answer[DAISARNICA_REPLAY_PLACE]);
     if (judged < DAISARNICA_UNJUDGED)
         printf("premises %lu\n", (unsigned long)judged);
     else
-        printf("not judged %lu %lu\n", (unsigned long)(judged - DAISARNICA_UNJUDGED), (unsigned long)answer[DAISARNICA_JUDGE_PLACE]);
+        print_refusal("not judged", judged - DAISARNICA_UNJUDGED, answer[DAISARNICA_JUDGE_PLACE]);
 }
 
 int main(void)

@@ -30,7 +30,7 @@ use Rattle.sets.proofs.Sets.{set-and}
 use Rattle.premises.specs.Ended.{tookAll}
 use Rattle.sheet.specs.declared.Sent.{Sent}
 use Rattle.sheet.specs.declared.Ran.{Ran}
-use Rattle.sheet.specs.Bench.{table, sentOf, benchOf, answerOf, runFirst}
+use Rattle.sheet.specs.Bench.{table, sentOf, answerOf, runFirst}
 use Rattle.sheet.proofs.Tables.{table-at, is-table, length-table}
 use Rattle.sheet.proofs.Sheets.{passed}
 use Rattle.judge.specs.declared.pass.Seen.{Seen}
@@ -56,10 +56,10 @@ pub record AcceptedSheet (ws : List ℕ) (r : Ran) : Type 0 where
   pub heads : headsFit (settingAt ws .n) (settingAt ws .f) ≡ true
   pub is-run : runOf ws (entryCount ws) ≡ ran (historyOf ws (entryCount ws))
   pub sheet-run : runSheet ws ≡ ran (historyOf ws (entryCount ws))
-  pub sent-is : r .bench .sent ≡ table (sentOf (historyOf ws (entryCount ws))) 0 512
+  pub sent-is : r .sent ≡ table (sentOf (historyOf ws (entryCount ws))) 0 512
 
 pub accepted-sheet : (ws : List ℕ) (r : Ran) → r ≡ answerOf (settingAt ws) (runFirst ws (length ws)) → r .verdict ≡ Accepted → AcceptedSheet ws r
-unfolding answerOf benchOf runSheet
+unfolding answerOf runSheet
 accepted-sheet ws r is v = at (sheetVerdict ws) refl (runOf ws (entryCount ws)) refl (is ∙ ap (answerOf (settingAt ws)) (whole-run ws))
   where
     at : (w : Verdict) → sheetVerdict ws ≡ w → (x : Run) → runOf ws (entryCount ws) ≡ x → r ≡ answerOf (settingAt ws) (afterVerdict (sheetVerdict ws) (runOf ws (entryCount ws))) → AcceptedSheet ws r
@@ -76,7 +76,7 @@ accepted-sheet ws r is v = at (sheetVerdict ws) refl (runOf ws (entryCount ws)) 
           heads = passed ws (sheetVerdict ws) refl e .heads;
           is-run = is-run;
           sheet-run = ap₂ afterVerdict e is-run;
-          sent-is = ap (λ (t : Ran). t .bench .sent) (says ∙ ap₂ (λ (w : Verdict) (x : Run). answerOf (settingAt ws) (afterVerdict w x)) e is-run);
+          sent-is = ap (λ (t : Ran). t .sent) (says ∙ ap₂ (λ (w : Verdict) (x : Run). answerOf (settingAt ws) (afterVerdict w x)) e is-run);
         }
 
 -- the entries that sent the frames of an accepted run

@@ -35,8 +35,7 @@ fn judge_of(sheet: &[u32], ran: Ran) -> Judged
         Verdict::Refused(c) => Judged::Unjudged(c, ran.place),
         Verdict::Accepted => {
             let g = setting_of(sheet[0], sheet[1]);
-            let bench = ran.bench;
-            let sent = bench.sent;
+            let sent = ran.sent;
             let sending = sending_entries(sent);
             let seen = watch(sheet, g, (sheet.len() - 2) / 3, &sending);
             let took = seen.took;

@@ -25,7 +25,7 @@ use Rattle.protocol.proofs.Valid.{Valid, valid-run, heads-fit}
 use Rattle.protocol.proofs.Ranges.{InRange, run-in-range}
 use Rattle.protocol.proofs.ResultWords.{number-below, start-below}
 use Rattle.sheet.specs.declared.Ran.{Ran}
-use Rattle.sheet.specs.Bench.{table, noRecord, sentOf, benchOf, noSetting, answerOf, runFirst}
+use Rattle.sheet.specs.Bench.{table, noRecord, answerAfter, noSetting, answerOf, runFirst}
 use Rattle.sheet.proofs.Tables.{table-at}
 use Rattle.sheet.proofs.Sheets.{passed}
 use Rattle.results.specs.Written.{Writable, AllWritable, recordAt}
@@ -45,12 +45,12 @@ writable {r} i =
 
 -- THE ENDS OF A REPLAY
 
-answer-stopped : (g : Setting) (c : Cause) (p : ℕ) → answerOf g (stopped c p) ≡ record { verdict = Refused c; place = p; bench = benchOf noSetting [] }
+answer-stopped : (g : Setting) (c : Cause) (p : ℕ) → answerOf g (stopped c p) ≡ answerAfter (Refused c) p noSetting []
 unfolding answerOf
 answer-stopped g c p = refl
 
-answer-ran : (g : Setting) (s : History) → answerOf g (ran s) ≡ record { verdict = Accepted; place = 0; bench = record { records = table (recordOf g s) 0 16; sent = table (sentOf s) 0 512 } }
-unfolding answerOf benchOf
+answer-ran : (g : Setting) (s : History) → answerOf g (ran s) ≡ answerAfter Accepted 0 g s
+unfolding answerOf
 answer-ran g s = refl
 
 abbrev Answers : List ℕ → List ℕ → Replayed → List ℕ → Type 0
@@ -94,9 +94,9 @@ module _ (ws out : List ℕ) (v : Verdict) (is : v ≡ sheetVerdict ws) where
               absurd (let z : _≡_ {A = ℕ} 0 1 = cc in omega arith)
 
       -- the history of a run that was not stopped, and its records
-      records-are : (s : History) → runOf ws (entryCount ws) ≡ ran s → (q : ℕ) → q < 16 → recordAt (r .bench .records) q ≡ recordOf g s q
+      records-are : (s : History) → runOf ws (entryCount ws) ≡ ran s → (q : ℕ) → q < 16 → recordAt (r .records) q ≡ recordOf g s q
       records-are s h q l =
-          ap (λ (y : Ran). recordAt (y .bench .records) q) (all-run ∙ ap (answerOf g) h ∙ answer-ran g s) ∙ table-at (recordOf g s) 16 q noRecord l
+          ap (λ (y : Ran). recordAt (y .records) q) (all-run ∙ ap (answerOf g) h ∙ answer-ran g s) ∙ table-at (recordOf g s) 16 q noRecord l
 
       has-run : {A : Type 0} → r .verdict ≡ Accepted → ((s : History) → runOf ws (entryCount ws) ≡ ran s → A) → A
       has-run {A} t k = go (runOf ws (entryCount ws)) refl
@@ -107,7 +107,7 @@ module _ (ws out : List ℕ) (v : Verdict) (is : v ≡ sheetVerdict ws) where
               absurd (let z : _≡_ {A = ℕ} 0 1 = cc in omega arith)
           go (ran s) h = k s h
 
-      pub all-writable : r .verdict ≡ Accepted → AllWritable (g .n) (r .bench .records)
+      pub all-writable : r .verdict ≡ Accepted → AllWritable (g .n) (r .records)
       all-writable t =
           has-run t (λ s h q l.
           let few = heads-few ws v is e g says in
@@ -115,10 +115,10 @@ module _ (ws out : List ℕ) (v : Verdict) (is : v ≡ sheetVerdict ws) where
           let valid : Valid g s = rw says (valid-run ws (entryCount ws) s h) in
           rw (records-are s h q (omega arith)) (writable (run-in-range fit valid q l)))
 
-      pub filled-run : (after : List ℕ) → r .verdict ≡ Accepted → after ≡ wordsFrom (recordAt (r .bench .records)) 0 (g .n) ++ drop (3 * g .n) out → Answers ws out Filled after
+      pub filled-run : (after : List ℕ) → r .verdict ≡ Accepted → after ≡ wordsFrom (recordAt (r .records)) 0 (g .n) ++ drop (3 * g .n) out → Answers ws out Filled after
       unfolding resultWords
       filled-run after t w =
           has-run t (λ s h.
           let few = heads-few ws v is e g says in
-          let same = same-words (recordAt (r .bench .records)) (recordOf g s) 0 (g .n) (λ i l. records-are s h i (omega arith)) in
+          let same = same-words (recordAt (r .records)) (recordOf g s) 0 (g .n) (λ i l. records-are s h i (omega arith)) in
           rw (goes-by-run, h) (refl, w ∙ ap (λ (l : List ℕ). l ++ drop (3 * g .n) out) same))

@@ -95,8 +95,7 @@ pub fn replay_of(sheet: &[u32], ran: Ran, out: &mut [u32]) -> Replayed
             match w {
                 Verdict::Refused(c) => Replayed::TurnedBack(c, ran.place),
                 Verdict::Accepted => {
-                    let bench = ran.bench;
-                    let records = bench.records;
+                    let records = ran.records;
                     write_words(out, records, g.n);
                     Replayed::Filled
                 }

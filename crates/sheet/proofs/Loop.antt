@@ -46,7 +46,7 @@ use Rattle.entries.specs.Entries.{deliveredFrame, entryVerdict}
 use Rattle.sheet.specs.declared.Sent.{Sent}
 use Rattle.sheet.specs.declared.Read.{Read}
 use Rattle.sheet.specs.declared.Ran.{Ran}
-use Rattle.sheet.specs.Bench.{table, noRecord, noSent, freshState, noState, rowOf, recordIn, readOf, placeOfFrame, keptFrame, sentOf, benchOf, noSetting, answerOf}
+use Rattle.sheet.specs.Bench.{table, noRecord, noSent, freshState, noState, rowOf, recordIn, readOf, placeOfFrame, keptFrame, sentOf, noSetting, answerOf}
 use Rattle.places.specs.Places.{placeFor}
 use Rattle.sheet.proofs.Tables.{length-table, is-table, table-at, set-table}
 use Rattle.sheet.proofs.Rows.{flat, flat-at, row-flat, set-row, once-at, once-row, set-twice}
@@ -613,11 +613,11 @@ record-same ws g i states senders sent time is k q l =
     go false t = sym (k .rest-fresh q (ltb-false q (settingAt ws .n) t))
 
 abbrev pub ended : List HeadRecord → List Sent → Ran
-ended records sent = record { verdict = Accepted; place = 0; bench = record { records = records; sent = sent } }
+ended records sent = record { verdict = Accepted; place = 0; records = records; sent = sent }
 
 pub run-ended : (ws : List ℕ) (g : Setting) (i count : ℕ) (states : List State) (senders : List Sender) (sent : List Sent) (time : ℕ) (records : List HeadRecord) → g ≡ settingAt ws → i ≡ count
     → Keeps ws i states senders sent time → records ≡ table (recordIn (g .n) (g .f) states senders) 0 16 → ended records sent ≡ answerOf g (runOf ws count)
-unfolding answerOf benchOf
+unfolding answerOf
 run-ended ws g i count states senders sent time records is same k are =
     ap (λ (l : List HeadRecord). ended l sent) (are ∙ all ∙ ap (λ (g : Setting). table (recordOf g (k .history)) 0 16) (sym is))
     ∙ ap (ended (table (recordOf g (k .history)) 0 16)) (k .sent-are)

@@ -9,6 +9,7 @@ use Rattle.protocol.specs.declared.HeadRecord.{HeadRecord}
 use Rattle.protocol.specs.declared.Setting.{Setting}
 use Rattle.protocol.specs.declared.Frame.{Frame}
 use Rattle.protocol.specs.declared.Frame.the-variants.{NoFrame, Start, Vote, Adjust}
+use Rattle.protocol.specs.declared.Verdict.{Verdict}
 use Rattle.protocol.specs.declared.Verdict.the-variants.{Accepted, Refused}
 use Rattle.protocol.specs.Words.{entryCount, placeOf, entryAt, entryFits}
 use Rattle.protocol.specs.Record.{reading, freshPhase, noSender, fresh}
@@ -20,7 +21,6 @@ use Rattle.changes.specs.Changes.{stateFrom}
 use Rattle.actions.specs.Actions.{recordWith}
 use Rattle.sheet.specs.declared.Read.{Read}
 use Rattle.sheet.specs.declared.Sent.{Sent}
-use Rattle.sheet.specs.declared.Bench.{Bench}
 use Rattle.sheet.specs.declared.Ran.{Ran}
 use Rattle.places.specs.Places.{placeFor}
 
@@ -87,16 +87,17 @@ sentAt (e ∷ s) a p k =
 unfoldable pub sentOf : History → ℕ → Sent
 sentOf s j = record { frame = frameSent s (actionAt j) (headAt j) (serialAt j); at = sentAt s (actionAt j) (headAt j) (serialAt j) }
 
-unfoldable pub benchOf : Setting → History → Bench
-benchOf g s = record { records = table (recordOf g s) 0 16; sent = table (sentOf s) 0 512 }
+-- the heads' records and the frames sent
+abbrev pub answerAfter : Verdict → ℕ → Setting → History → Ran
+answerAfter v p g s = record { verdict = v; place = p; records = table (recordOf g s) 0 16; sent = table (sentOf s) 0 512 }
 
--- a run's answer; a stopped one has a bench of no heads
+-- a run's answer; a stopped one has the records of no heads
 abbrev pub noSetting : Setting
 noSetting = record { n = 0; f = 0; correct = 0; drift = 0; tightness = 0 }
 
 unfoldable pub answerOf : Setting → Run → Ran
-answerOf g (stopped c p) = record { verdict = Refused c; place = p; bench = benchOf noSetting [] }
-answerOf g (ran s) = record { verdict = Accepted; place = 0; bench = benchOf g s }
+answerOf g (stopped c p) = answerAfter (Refused c) p noSetting []
+answerOf g (ran s) = answerAfter Accepted 0 g s
 
 -- the run of a sheet's first k entries, or of all of them where it has fewer
 unfoldable pub runFirst : List ℕ → ℕ → Run

@@ -49,23 +49,19 @@ pub struct Sent {
     pub at: usize,
 }
 
-// The heads' records and the frames sent: votes at head × 16 + serial, adjusts 256 further.
-pub struct Bench {
-    pub records: [HeadRecord; 16],
-    pub sent: [Sent; 512],
-}
-
 // An entry, and whether its words fit (else cause 6).
 pub struct Read {
     pub entry: Entry,
     pub fits: bool,
 }
 
-// A run's answer: accepted, or the cause and the place of the refusal.
+// A run's answer: accepted, or the cause and the place of the refusal; the heads' records, and the frames sent, votes at
+// head × 16 + serial, adjusts 256 further.
 pub struct Ran {
     pub verdict: Verdict,
     pub place: usize,
-    pub bench: Bench,
+    pub records: [HeadRecord; 16],
+    pub sent: [Sent; 512],
 }
 
 // The place of what head q keeps by sender p.
@@ -111,14 +107,11 @@ fn kept_frame(old: Sent, x: Frame, i: usize) -> Sent
 fn refused_at(c: Cause, place: usize) -> Ran
     ensures { λ r. ⌜ r ≡ answerOf noSetting (stopped c place) ⌝ }
 {
-    let bench = Bench {
-        records: fresh_records(0, 0),
-        sent: [no_sent(); 512],
-    };
     Ran {
         verdict: Verdict::Refused(c),
         place,
-        bench,
+        records: fresh_records(0, 0),
+        sent: [no_sent(); 512],
     }
 }
 
@@ -190,11 +183,11 @@ fn run_entries(sheet: &[u32], g: Setting, count: usize) -> Ran
         }
     }
     let records = records_of(g.n, g.f, states, senders);
-    let bench = Bench { records, sent };
     Ran {
         verdict: Verdict::Accepted,
         place: 0,
-        bench,
+        records,
+        sent,
     }
 }
 

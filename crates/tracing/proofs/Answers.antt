@@ -15,7 +15,7 @@ use Rattle.protocol.specs.Causes.{sheetVerdict}
 use Rattle.protocol.specs.Run.{History, recordOf, Run, stopped, ran, runOf, afterVerdict}
 use Rattle.protocol.proofs.Fits.{FittingSheet, sheet-fits}
 use Rattle.sheet.specs.declared.Ran.{Ran}
-use Rattle.sheet.specs.Bench.{table, noRecord, benchOf, answerOf, runFirst}
+use Rattle.sheet.specs.Bench.{table, noRecord, answerOf, runFirst}
 use Rattle.sheet.proofs.Tables.{table-at}
 use Rattle.tracing.specs.declared.Line.{Line}
 use Rattle.tracing.specs.declared.Traced.the-variants.{After, RefusedAt, Ended}
@@ -28,17 +28,17 @@ no-both c e = absurd (let z : _≡_ {A = ℕ} 0 1 = cc in omega arith)
 pub record AcceptedRun (ws : List ℕ) (k : ℕ) (r : Ran) : Type 0 where
   pub past : History
   pub is-run : runFirst ws k ≡ ran past
-  pub records : r .bench .records ≡ table (recordOf (settingAt ws) past) 0 16
+  pub records : r .records ≡ table (recordOf (settingAt ws) past) 0 16
   pub sheet : FittingSheet ws
 
 pub accepted-run : (ws : List ℕ) (k : ℕ) (r : Ran) → r ≡ answerOf (settingAt ws) (runFirst ws k) → r .verdict ≡ Accepted → AcceptedRun ws k r
-unfolding runFirst answerOf benchOf
+unfolding runFirst answerOf
 accepted-run ws k r is v = at (sheetVerdict ws) (runOf ws _) refl refl
   where
     at-run : (x : Run) → sheetVerdict ws ≡ Accepted → runFirst ws k ≡ x → AcceptedRun ws k r
     at-run (stopped c p) fits e = no-both c (sym (ap (λ (t : Ran). t .verdict) (is ∙ ap (answerOf (settingAt ws)) e)) ∙ v)
     at-run (ran s) fits e =
-        record { past = s; is-run = e; records = ap (λ (t : Ran). t .bench .records) (is ∙ ap (answerOf (settingAt ws)) e); sheet = sheet-fits ws fits }
+        record { past = s; is-run = e; records = ap (λ (t : Ran). t .records) (is ∙ ap (answerOf (settingAt ws)) e); sheet = sheet-fits ws fits }
 
     at : (w : Verdict) (x : Run) → sheetVerdict ws ≡ w → runFirst ws k ≡ afterVerdict w x → AcceptedRun ws k r
     at Accepted x fits e = at-run x fits e
@@ -62,15 +62,15 @@ head-low t a w = omega arith
 
 -- the line of entry k, after a run that has reached it
 pub line-after : (ws : List ℕ) (k : ℕ) (r : Ran) → AcceptedRun ws (k + 1) r → (e : Entry) (l : Line) → k < entryCount ws → e ≡ entryAt ws k
-    → l ≡ lineOf e (getD (r .bench .records) (e .head % 16) noRecord) → After l ≡ traced ws k
+    → l ≡ lineOf e (getD (r .records) (e .head % 16) noRecord) → After l ≡ traced ws k
 unfolding traced
 line-after ws k r a e l h same is =
-    rw (a .is-run, lt-ltb k (entryCount ws) h) (ap After (is ∙ ap (λ (x : Entry). lineOf x (getD (r .bench .records) (x .head % 16) noRecord)) same ∙ ap (lineOf (entryAt ws k)) held))
+    rw (a .is-run, lt-ltb k (entryCount ws) h) (ap After (is ∙ ap (λ (x : Entry). lineOf x (getD (r .records) (x .head % 16) noRecord)) same ∙ ap (lineOf (entryAt ws k)) held))
   where
     below : entryAt ws k .head < 16
     below = head-low _ _ _
 
-    held : getD (r .bench .records) (entryAt ws k .head % 16) noRecord ≡ recordOf (settingAt ws) (a .past) (entryAt ws k .head)
+    held : getD (r .records) (entryAt ws k .head % 16) noRecord ≡ recordOf (settingAt ws) (a .past) (entryAt ws k .head)
     held =
         ap (λ (t : List HeadRecord). getD t (entryAt ws k .head % 16) noRecord) (a .records)
         ∙ table-at (recordOf (settingAt ws) (a .past)) 16 (entryAt ws k .head % 16) noRecord (omega arith)

@@ -64,8 +64,7 @@ pub fn trace_entry(sheet: &[u32], k: u32) -> Traced
                 let at = 2 + 3 * i;
                 let e = entry_of(sheet[at], sheet[at + 1], sheet[at + 2]);
                 let q = (e.head % 16) as usize;
-                let bench = r.bench;
-                let records = bench.records;
+                let records = r.records;
                 Traced::After(line_of(e, records[q]))
             } else {
                 Traced::Ended

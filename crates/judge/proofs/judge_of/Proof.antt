@@ -28,16 +28,16 @@ sending-entries-requires : tie.Need-sending-entries-requires
 sending-entries-requires c κs = search needs
 
 sub-watch : tie.Need-sub-watch
-sub-watch c = omega (arith, (accepted-sheet (now (c .before .before .before .before .before .before .before .before .before .args .sheet)) _ (c .before .before .before .before .before .before .before .before .before .pre) (c .before .before .before .before .before .before .enum-told .given .1)) .whole)
+sub-watch c = omega (arith, (accepted-sheet (now (c .before .before .before .before .before .before .before .before .args .sheet)) _ (c .before .before .before .before .before .before .before .before .pre) (c .before .before .before .before .before .enum-told .given .1)) .whole)
 
 slice-aggregate-watch : tie.Need-slice-aggregate-watch
 slice-aggregate-watch c = search needs
 
 watch-requires : tie.Need-watch-requires
 watch-requires c κs =
-    let A = c .before .before .before .before .before .before .before .before .before .before .args in
-    let a = accepted-sheet (now (c .before .before .before .before .before .before .before .before .before .before .args .sheet)) _ (c .before .before .before .before .before .before .before .before .before .before .pre) (c .before .before .before .before .before .before .before .enum-told .given .1) in
-    let setting = c .before .before .before .before .setting-of .ensures in
+    let A = c .before .before .before .before .before .before .before .before .before .args in
+    let a = accepted-sheet (now (c .before .before .before .before .before .before .before .before .before .args .sheet)) _ (c .before .before .before .before .before .before .before .before .before .pre) (c .before .before .before .before .before .before .enum-told .given .1) in
+    let setting = c .before .before .before .setting-of .ensures in
     (omega (arith, a .whole), omega (arith, a .whole, a .most), a .first-word, subst (λ (x : Setting). headsFit (x .n) (x .f) ≡ true) (sym setting) (a .heads), setting, a .is-run, c .before .sending-entries .ensures ∙ sending-is _ _ (a .sent-is))
 
 array-read-took-all : tie.Need-array-read-took-all
@@ -66,9 +66,9 @@ returns c =
 
 returns-2 : tie.Need-returns-2
 returns-2 c =
-    let A = c .before .before .before .before .before .before .before .before .before .before .before .before .before .before .before .before .before .args in
-    let a = accepted-sheet (now (c .before .before .before .before .before .before .before .before .before .before .before .before .before .before .before .before .before .args .sheet)) _ (c .before .before .before .before .before .before .before .before .before .before .before .before .before .before .before .before .before .pre) (c .before .before .before .before .before .before .before .before .before .before .before .before .before .before .enum-told .given .1) in
-    let is = kept-answer (now (A .sheet)) _ (c .before .before .before .before .before .before .before .before .before .before .before .setting-of .result) (c .before .before .before .before .before .before .watch .result) (c .before .enough-correct .result) (c .before .before .took-all .result) (c .first-broken .result) a (c .before .before .before .before .before .before .before .before .before .before .before .setting-of .ensures) (c .before .before .before .before .before .before .watch .ensures) (c .before .enough-correct .ensures) (c .before .before .took-all .ensures) (c .first-broken .ensures) in
+    let A = c .before .before .before .before .before .before .before .before .before .before .before .before .before .before .before .before .args in
+    let a = accepted-sheet (now (c .before .before .before .before .before .before .before .before .before .before .before .before .before .before .before .before .args .sheet)) _ (c .before .before .before .before .before .before .before .before .before .before .before .before .before .before .before .before .pre) (c .before .before .before .before .before .before .before .before .before .before .before .before .before .enum-told .given .1) in
+    let is = kept-answer (now (A .sheet)) _ (c .before .before .before .before .before .before .before .before .before .before .setting-of .result) (c .before .before .before .before .before .before .watch .result) (c .before .enough-correct .result) (c .before .before .took-all .result) (c .first-broken .result) a (c .before .before .before .before .before .before .before .before .before .before .setting-of .ensures) (c .before .before .before .before .before .before .watch .ensures) (c .before .enough-correct .ensures) (c .before .before .took-all .ensures) (c .first-broken .ensures) in
     (is, claim (now (A .sheet)) _ is)
 
 pub judge-of-spec : {M : Type 1} → statement M

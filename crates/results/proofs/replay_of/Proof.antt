@@ -40,7 +40,7 @@ enum-told-2 : tie.Need-enum-told-2
 enum-told-2 c = search needs
 
 write-words-requires : tie.Need-write-words-requires
-write-words-requires c κs = (heads-few _ _ (c .before .before .before .before .before .before .before .before .before .before .before .before .sheet-verdict .ensures) (c .before .before .before .before .before .before .before .before .before .before .enum-told .given .1) _ (c .before .before .before .before .before .before .before .setting-of .ensures), c .before .before .before .before .before .if1 .left, all-writable _ (now (c .before .before .before .before .before .before .before .before .before .before .before .before .before .before .before .args .out)) _ (c .before .before .before .before .before .before .before .before .before .before .before .before .sheet-verdict .ensures) (c .before .before .before .before .before .before .before .before .before .before .enum-told .given .1) _ (c .before .before .before .before .before .before .before .setting-of .ensures) (c .before .before .before .before .before .if1 .left) _ (c .before .before .before .before .before .before .before .before .before .before .before .before .before .before .before .pre) (c .before .before .before .enum-told2 .given .1))
+write-words-requires c κs = (heads-few _ _ (c .before .before .before .before .before .before .before .before .before .before .before .sheet-verdict .ensures) (c .before .before .before .before .before .before .before .before .before .enum-told .given .1) _ (c .before .before .before .before .before .before .setting-of .ensures), c .before .before .before .before .if1 .left, all-writable _ (now (c .before .before .before .before .before .before .before .before .before .before .before .before .before .before .args .out)) _ (c .before .before .before .before .before .before .before .before .before .before .before .sheet-verdict .ensures) (c .before .before .before .before .before .before .before .before .before .enum-told .given .1) _ (c .before .before .before .before .before .before .setting-of .ensures) (c .before .before .before .before .if1 .left) _ (c .before .before .before .before .before .before .before .before .before .before .before .before .before .before .pre) (c .before .before .enum-told2 .given .1))
 
 returns-2 : tie.Need-returns-2
 returns-2 c = turned-back _ _ _ (c .before .before .before .sheet-verdict .ensures) _ (c .before .v .given .1)
@@ -52,7 +52,7 @@ same-length : tie.Need-same-length
 same-length c = search needs
 
 returns-4 : tie.Need-returns-4
-returns-4 c = filled-run _ _ _ (c .before .before .before .before .before .before .before .before .before .before .before .before .before .before .before .sheet-verdict .ensures) (c .before .before .before .before .before .before .before .before .before .before .before .before .before .enum-told .given .1) _ (c .before .before .before .before .before .before .before .before .before .before .setting-of .ensures) (c .before .before .before .before .before .before .before .before .if1 .left) _ (c .before .before .before .before .before .before .before .before .before .before .before .before .before .before .before .before .before .before .pre) _ (c .before .before .before .before .before .before .enum-told2 .given .1) (c .before .before .write-words .ensures)
+returns-4 c = filled-run _ _ _ (c .before .before .before .before .before .before .before .before .before .before .before .before .before .before .sheet-verdict .ensures) (c .before .before .before .before .before .before .before .before .before .before .before .before .enum-told .given .1) _ (c .before .before .before .before .before .before .before .before .before .setting-of .ensures) (c .before .before .before .before .before .before .before .if1 .left) _ (c .before .before .before .before .before .before .before .before .before .before .before .before .before .before .before .before .before .pre) _ (c .before .before .before .before .before .enum-told2 .given .1) (c .before .before .write-words .ensures)
 
 pub replay-of-spec : {M : Type 1} → statement M
 replay-of-spec =

@@ -1,5 +1,5 @@
 use mathlib.Core.Path.{refl}
-use Rattle.sheet.specs.Bench.{benchOf, noSetting, answerOf}
+use Rattle.sheet.specs.Bench.{noSetting, answerOf}
 use Rattle.sheet.proofs.Runs.{first-records, first-sent}
 use borrow.Author.Needs.{needs}
 use Rattle.sheet.proofs.refused_at.Statement.{statement}
@@ -12,7 +12,7 @@ no-sent-requires : tie.Need-no-sent-requires
 no-sent-requires c κs = search needs
 
 returns : tie.Need-returns
-unfolding answerOf benchOf
+unfolding answerOf
 returns c = rw (c .no-sent .ensures, c .before .fresh-records .ensures, first-records noSetting, ← first-sent) refl
 
 pub refused-at-spec : {M : Type 1} → statement M

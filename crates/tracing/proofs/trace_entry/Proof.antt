@@ -78,12 +78,12 @@ returns c =
 
 returns-2 : tie.Need-returns-2
 returns-2 c =
-    let a = c .before .before .before .before .before .before .before .before .before .before .before .before .before .before .args in
-    let r = c .before .before .before .before .before .before .before .before .before .before .before .before .run in
-    let run = accepted-run (now (a .sheet)) (a .k + 1) (r .result) (r .ensures) (c .before .before .before .before .before .before .before .before .before .before .enum-told .given .1) in
+    let a = c .before .before .before .before .before .before .before .before .before .before .before .before .before .args in
+    let r = c .before .before .before .before .before .before .before .before .before .before .before .run in
+    let run = accepted-run (now (a .sheet)) (a .k + 1) (r .result) (r .ensures) (c .before .before .before .before .before .before .before .before .before .enum-told .given .1) in
     let w = run .sheet .whole-entries in
-    line-after (now (a .sheet)) (a .k) (r .result) run (c .before .before .before .before .before .entry-of .result) (c .line-of .result) (omega (arith, c .before .before .before .before .before .before .before .before .before .if1 .taken))
-    (c .before .before .before .before .before .entry-of .ensures) (c .line-of .ensures)
+    line-after (now (a .sheet)) (a .k) (r .result) run (c .before .before .before .before .entry-of .result) (c .line-of .result) (omega (arith, c .before .before .before .before .before .before .before .before .if1 .taken))
+    (c .before .before .before .before .entry-of .ensures) (c .line-of .ensures)
 
 returns-3 : tie.Need-returns-3
 returns-3 c =
