@@ -194,15 +194,15 @@ impl Cover {
         names
     }
 
-    /// Generates one sheet, counts it, compares plain and fast and checks the
-    /// claim.
+    /// Generates one sheet and adds it.
     pub fn sheet(&mut self, seed: u64, index: u64) -> Result<(), String> {
         let made = generate(seed, index);
         self.add(&made)
             .map_err(|why| format!("seed {seed}, sheet {index}, {:?}: {why}", made.aim))
     }
 
-    fn add(&mut self, made: &Generated) -> Result<(), String> {
+    /// Counts one sheet, compares plain and fast and checks the claim.
+    pub fn add(&mut self, made: &Generated) -> Result<(), String> {
         self.sheets += 1;
         self.bytes += made.bytes.len() as u64;
         self.longest = self.longest.max(made.bytes.len());

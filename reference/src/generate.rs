@@ -2,7 +2,7 @@
 //! first, sheets that are turned back by a wanted cause, and damaged ones.
 
 use crate::cover::{closed_reasons, BRANCHES};
-use crate::judge::first_broken;
+use crate::fast;
 use crate::random::Random;
 use crate::round::round;
 use crate::sheet::run;
@@ -68,15 +68,15 @@ fn draw_cause(random: &mut Random) -> u32 {
 }
 
 /// The words and n of a sheet that is accepted with this first broken premise,
-/// as the plain judge says.
+/// as the fast form says; [`crate::cover`] holds the plain form to it.
 pub fn accepted(random: &mut Random, premise: u32) -> (Vec<u32>, u32) {
     loop {
         let Some((settings, entries)) = round(random, premise) else {
             continue;
         };
         let words = write_sheet(&settings, &entries);
-        let run = run(&words, None).expect("rounds are accepted");
-        if first_broken(&run) == premise {
+        let (_, broken) = fast::answer(&words, None).expect("rounds are accepted");
+        if broken == premise {
             return (words, settings.n);
         }
     }

@@ -2,6 +2,8 @@
 //! round on the CAN bus"), written from its text alone. Clarity comes before
 //! speed, except in [`fast`], which is a second form of replay and judge.
 
+#[cfg(feature = "board")]
+pub mod board;
 pub mod claim;
 pub mod counter;
 pub mod cover;
@@ -14,5 +16,7 @@ pub mod record;
 pub mod results;
 pub mod round;
 pub mod sheet;
+#[cfg(feature = "sheets")]
+pub mod sheets;
 pub mod step;
 pub mod words;

@@ -9,24 +9,24 @@ use crate::words::bits;
 /// unless the outcome is 2."
 pub fn result_words(record: &Record) -> [u32; 3] {
     let outcome = record.outcome();
-    let mut candidate = 0;
-    let mut adjuster = 0;
-    let mut adjustment = 0;
-    let mut start = 0;
+    let mut result = HeadResult {
+        head: record.own,
+        outcome,
+        candidate: 0,
+        adjuster: 0,
+        adjustment: 0,
+        start: 0,
+    };
     if outcome == 2 {
-        candidate = record.candidate.expect("outcome 2 has a candidate");
-        adjuster = record.adjuster.expect("outcome 2 has an adjuster");
-        adjustment = record.adjustment.0;
-        start = record
+        result.candidate = record.candidate.expect("outcome 2 has a candidate");
+        result.adjuster = record.adjuster.expect("outcome 2 has an adjuster");
+        result.adjustment = record.adjustment.0;
+        result.start = record
             .chosen_start_reading()
             .expect("outcome 2 has the candidate's start reading")
             .0;
     }
-    [
-        6 << 28 | outcome << 24 | record.own << 20 | candidate << 16 | adjuster << 12,
-        7 << 28 | adjustment,
-        8 << 28 | start,
-    ]
+    result.words()
 }
 
 /// "in head order from word 0, later words kept".
@@ -58,6 +58,19 @@ impl HeadResult {
             adjustment: bits(words[1], 27, 0),
             start: bits(words[2], 27, 0),
         }
+    }
+
+    /// Writes three result words.
+    pub fn words(&self) -> [u32; 3] {
+        [
+            6 << 28
+                | self.outcome << 24
+                | self.head << 20
+                | self.candidate << 16
+                | self.adjuster << 12,
+            7 << 28 | self.adjustment,
+            8 << 28 | self.start,
+        ]
     }
 
     /// "kind 7's number less kind 8's as each head's correction"; 0 unless the

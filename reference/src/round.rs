@@ -418,9 +418,8 @@ impl Round<'_> {
 
     /// The correct heads that took the action, or leave it out.
     fn through(&self, action: u32) -> u32 {
-        self.settings
-            .correct_heads()
-            .into_iter()
+        (0..self.settings.n)
+            .filter(|&h| self.is_correct(h))
             .filter(|&h| {
                 let r = self.record(h);
                 let mark = match action {
@@ -435,9 +434,10 @@ impl Round<'_> {
 
     /// "every correct head either took all of 1, 3 and 4 or was delivered a vote"
     fn unready(&self) -> Vec<u32> {
-        let mut heads = self.settings.correct_heads();
-        heads.retain(|&h| !self.record(h).vote_turn && (self.got_vote >> h) & 1 == 0);
-        heads
+        (0..self.settings.n)
+            .filter(|&h| self.is_correct(h))
+            .filter(|&h| !self.record(h).vote_turn && (self.got_vote >> h) & 1 == 0)
+            .collect()
     }
 
     /// The next stage, where the premises allow it or are to be broken so.
@@ -640,7 +640,7 @@ impl Round<'_> {
     /// The actions that heads can take by themselves now, and the deliveries that
     /// come before a confirmation.
     fn own_tasks(&mut self) -> Vec<Task> {
-        let mut tasks = Vec::new();
+        let mut tasks = Vec::with_capacity(4 * self.settings.n as usize);
         let first_close = self.through(9) != 0;
         for h in 0..self.settings.n {
             if self.is_stopped(h) {
@@ -702,7 +702,7 @@ impl Round<'_> {
             return;
         }
         let own = self.own_tasks();
-        let mut choices: Vec<(u64, Task)> = Vec::new();
+        let mut choices: Vec<(u64, Task)> = Vec::with_capacity(4);
         if !own.is_empty() {
             let task = self.random.pick(&own);
             choices.push((self.weights[0], task));

@@ -38,8 +38,10 @@ use Rattle.changes.specs.declared.Message.the-variants.{NoMessage, StartMessage
 use Rattle.changes.specs.declared.Change.{Change}
 use Rattle.changes.specs.Changes.{withMarks, withPhases, sends, sendsNothing, waits, leading, startDelivered, voteTurn, voteDelivered, adjustTurn, adjustDelivered, changeOf, senderOf}
 use Rattle.sending.specs.Sending.{votedFor, keepOwn, chooseByte, voteAfter, adjustAfter, adjustmentAfter, stateAfter, frameOf}
-use Rattle.actions.specs.declared.admit.Admission.{Admission}
-use Rattle.actions.specs.Actions.{stateOf, marksIn, stateFits, numbersFit, verdictOf, openVerdict, admittedBy, admissionOf, countedOf, messageOf, recordWith, takeFitting}
+use Rattle.admission.specs.declared.Admission.{Admission}
+use Rattle.actions.specs.Actions.{stateOf, takeFitting}
+use Rattle.admission.specs.Admission.{marksIn, stateFits, numbersFit, verdictOf, openVerdict, admittedBy, admissionOf}
+use Rattle.counting.specs.Counting.{countedOf, messageOf, recordWith}
 
 -- WHAT THE CODE BUILDS
 

@@ -15,7 +15,8 @@ use Rattle.protocol.specs.Record.{isNumber, sentInRange, phaseInRange, recordIn
 use Rattle.protocol.specs.Step.{takeAction}
 use Rattle.protocol.proofs.Tests.{and-left, and-right, and-both}
 use Rattle.actions.proofs.Built.{fitting}
-use Rattle.actions.specs.Actions.{stateOf, stateFits, numbersFit, takeFitting}
+use Rattle.actions.specs.Actions.{stateOf, takeFitting}
+use Rattle.admission.specs.Admission.{stateFits, numbersFit}
 
 sent-le : (n : ℕ) (c : OptNumber) (k : ℕ) → n ≤ 16 → sentInRange n c k ≡ true → k < 255
 sent-le n NoNumber k h e = let z = eqb-true k 0 e in omega arith

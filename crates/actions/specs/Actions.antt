@@ -1,97 +1,19 @@
 -- An action as the code takes it: first whether the record and the action fit its arrays and its bytes, then takeAction.
-use mathlib.Core.List.{List}
-use mathlib.Core.Bool.{Bool, true, cond, not, _&&_, _||_}
-use Prim.Native.Nat.{ℕ}
-use lib.Dec.{ltb, leb}
-use lib.ListN.{length}
+use mathlib.Core.Bool.{Bool, cond}
 use Rattle.protocol.specs.declared.Reading.{Reading}
 use Rattle.protocol.specs.declared.HeadRecord.{HeadRecord}
-use Rattle.protocol.specs.declared.Sender.{Sender}
-use Rattle.protocol.specs.declared.Cause.the-variants.{BadEntry, ReadingFell, ActionClosed, BadRecord}
-use Rattle.protocol.specs.declared.Verdict.{Verdict}
-use Rattle.protocol.specs.declared.Verdict.the-variants.{Accepted, Refused}
+use Rattle.protocol.specs.declared.Cause.the-variants.{BadEntry, BadRecord}
 use Rattle.protocol.specs.declared.Stepped.{Stepped}
 use Rattle.protocol.specs.declared.Action.{Action}
-use Rattle.protocol.specs.declared.Action.the-variants.{Look, StartSent, StartDelivered, StartConfirmed, VoteTurn, VoteDelivered, VoteClose, AdjustTurn, AdjustDelivered, AdjustClose}
-use Rattle.protocol.specs.Record.{isNumber, reading}
-use Rattle.protocol.specs.Median.{median}
-use Rattle.protocol.specs.Step.{startsHeld, voteReadings, refused, takeAction}
-use Rattle.closed.specs.declared.Marks.{Marks}
-use Rattle.closed.specs.Closed.{closedBy}
+use Rattle.protocol.specs.Record.{reading}
+use Rattle.protocol.specs.Step.{refused, takeAction}
 use Rattle.changes.specs.declared.State.{State}
-use Rattle.changes.specs.declared.Message.{Message}
-use Rattle.changes.specs.declared.Message.the-variants.{NoMessage, StartMessage, VoteMessage, AdjustMessage}
-use Rattle.changes.specs.declared.Change.{Change}
 use Rattle.changes.specs.Changes.{stateFrom}
-use Rattle.actions.specs.declared.admit.Admission.{Admission}
+use Rattle.admission.specs.Admission.{stateFits, numbersFit}
 
 -- a record less n, f and what it keeps by sender, with reading y as the last reading
 abbrev pub stateOf : HeadRecord → Reading → State
 stateOf r y = stateFrom (r .own) y (r .started) (r .confirmed) (r .vote) (r .adjust) (r .adjustment)
-
--- the record of a small part and of what is kept by sender
-abbrev pub recordWith : ℕ → ℕ → State → List Sender → HeadRecord
-recordWith n f b l = record { n = n; f = f; own = b .own; last = b .last; started = b .started; confirmed = b .confirmed; vote = b .vote; adjust = b .adjust; adjustment = b .adjustment; senders = l }
-
-abbrev pub marksIn : State → Marks
-marksIn b =
-    record {
-      started = b .started;
-      confirmed = b .confirmed;
-      «vote_turn» = b .vote .turn;
-      «vote_closed» = b .vote .closed;
-      «adjust_turn» = b .adjust .turn;
-      «adjust_closed» = b .adjust .closed;
-      candidate = isNumber (b .vote .choice);
-    }
-
--- n and the head's number are in the array, and each count of frames can grow in its byte: so in a record in its ranges
-unfoldable pub stateFits : ℕ → State → Bool
-stateFits n b = leb n 16 && (ltb (b .own) 16 && (ltb (b .vote .sent) 255 && ltb (b .adjust .sent) 255))
-
--- a sender, and a candidate to vote for, are in the array
-unfoldable pub numbersFit : Action → Bool
-numbersFit Look = true
-numbersFit StartSent = true
-numbersFit (StartDelivered p) = ltb p 16
-numbersFit StartConfirmed = true
-numbersFit VoteTurn = true
-numbersFit (VoteDelivered p k c x) = ltb p 16 && ltb c 16
-numbersFit VoteClose = true
-numbersFit AdjustTurn = true
-numbersFit (AdjustDelivered p k c x) = ltb p 16
-numbersFit AdjustClose = true
-
--- causes 8 and 9
-unfoldable pub openVerdict : State → Reading → Bool → Action → Verdict
-openVerdict b x sent a =
-    cond (ltb (x .0) (b .last .0)) (Refused ReadingFell)
-    (cond (not sent || closedBy (marksIn b) (b .own) a) (Refused ActionClosed) Accepted)
-
-unfoldable pub verdictOf : ℕ → State → Reading → Bool → Action → Verdict
-verdictOf n b x sent a =
-    cond (stateFits n b) (cond (numbersFit a) (openVerdict b x sent a) (Refused BadEntry)) (Refused BadRecord)
-
--- a refused action is a look at the last reading
-abbrev pub withReading : State → Reading → State
-withReading b x = record { own = b .own; last = x; started = b .started; confirmed = b .confirmed; vote = b .vote; adjust = b .adjust; adjustment = b .adjustment }
-
-abbrev pub admittedBy : Verdict → State → Reading → Action → Admission
-admittedBy Accepted b x a = record { verdict = Accepted; state = withReading b x; action = a }
-admittedBy (Refused c) b x a = record { verdict = Refused c; state = b; action = Look }
-
-unfoldable pub admissionOf : ℕ → State → Reading → Bool → Action → Admission
-admissionOf n b x sent a = admittedBy (verdictOf n b x sent a) b x a
-
--- what is sending once the readings are counted
-unfoldable pub countedOf : HeadRecord → Message → Message
-countedOf r NoMessage = NoMessage
-countedOf r StartMessage = StartMessage
-countedOf r (VoteMessage c) = cond (ltb (r .f) (startsHeld r)) (VoteMessage c) NoMessage
-countedOf r (AdjustMessage c x) = cond (leb 1 (length (voteReadings r (r .n)))) (AdjustMessage c (reading (median (voteReadings r (r .n))))) NoMessage
-
-abbrev pub messageOf : HeadRecord → Change → Message
-messageOf r d = cond (d .counts) (countedOf r (d .message)) (d .message)
 
 -- takeAction, of what fits
 unfoldable pub takeFitting : HeadRecord → Reading → Bool → Action → Stepped

@@ -1,16 +1,10 @@
 // One action of one head.
-mod admit;
-mod count;
-
-use admit::admit_action;
-pub use admit::open_verdict;
-pub use admit::with_reading;
+use admission::admit_action;
 use changes::act;
 use changes::sender_of;
 use changes::unstarted;
-use count::count_first;
-pub use count::counted_message;
-pub use count::record_with;
+use counting::count_first;
+use places::seat;
 use protocol::Action;
 use protocol::HeadRecord;
 use protocol::Reading;
@@ -20,15 +14,7 @@ use sending::keep_own;
 use sending::state_after;
 use sending::voted_for;
 ghost use mathlib.Core.Path.{_≡_};
-ghost use Prim.Native.Nat.{_%_};
 ghost use Rattle.actions.specs.Actions.{takeFitting};
-
-// The place of head p in an array by head.
-pub fn seat(p: u8) -> usize
-    ensures { λ i. ⌜ i ≡ p % 16 ⌝ }
-{
-    (p % 16) as usize
-}
 
 // One action of the head with record r: what takeAction says, but for a record or an action that the code cannot take
 // in (cause 10, 6). A refused action is a look at the last reading. The record is changed in place: each call that takes

@@ -13,7 +13,7 @@ use Rattle.protocol.specs.declared.Cause.the-variants.{BadEntry, TimeFell}
 use Rattle.protocol.specs.Words.{hasSender, hasSerial}
 use Rattle.protocol.specs.Run.{isFrame}
 use Rattle.changes.specs.declared.State.{State}
-use Rattle.actions.specs.Actions.{openVerdict}
+use Rattle.admission.specs.Admission.{openVerdict}
 
 -- the frame that an action delivers; x is the vote or adjust under the sender and serial
 abbrev pub deliveredFrame : ℕ → Bool → Frame → Frame

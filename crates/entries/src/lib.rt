@@ -6,7 +6,7 @@ ghost use Rattle.protocol.specs.Record.{readingOr0};
 ghost use Rattle.protocol.specs.Step.{actionOf};
 ghost use Rattle.protocol.specs.Run.{isFrame, carriedChoice, carriedReading, inputOf};
 ghost use Rattle.entries.specs.Entries.{deliveredFrame, entryVerdict};
-use actions::open_verdict;
+use admission::open_verdict;
 use changes::State;
 use protocol::Action;
 use protocol::Cause;

@@ -15,7 +15,8 @@ use Rattle.protocol.specs.Record.{reading, recordInRange}
 use Rattle.protocol.specs.Step.{refused, actionsOf, actionOf, inputFits, step}
 use Rattle.protocol.specs.Counter.{sinceBase, counterReading}
 use Rattle.protocol.proofs.Tests.{and-left, and-right, all-at}
-use Rattle.actions.specs.Actions.{numbersFit, takeFitting}
+use Rattle.actions.specs.Actions.{takeFitting}
+use Rattle.admission.specs.Admission.{numbersFit}
 use Rattle.actions.proofs.Fits.{heads-le, take-fitting}
 
 pub record Fitting (i : Input) : Type 0 where

@@ -1,3 +1,3 @@
 -- What the proofs of several functions use, and what is proved of the definitions.
-mod Fills
+pub mod Fills
 pub mod Back

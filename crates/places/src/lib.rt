@@ -1,7 +1,15 @@
-// Where what concerns one vote or adjust is kept, in arrays of 512 places: votes at head × 16 + serial, adjusts 256 further.
+// Where things are kept in arrays: by head; and by vote or adjust, in arrays of 512 places, votes at head × 16 + serial,
+// adjusts 256 further.
 ghost use mathlib.Core.Path.{_≡_};
-ghost use Prim.Native.Nat.{_<_};
+ghost use Prim.Native.Nat.{_<_, _%_};
 ghost use Rattle.places.specs.Places.{placeFor};
+
+// The place of head p in an array by head.
+pub fn seat(p: u8) -> usize
+    ensures { λ i. ⌜ i ≡ p % 16 ⌝ }
+{
+    (p % 16) as usize
+}
 
 // The place of the vote (action 5) or adjust (action 8) of head p under serial k.
 pub fn place_for(a: u8, p: u8, k: u8) -> usize

@@ -1,4 +1,3 @@
 -- Laws that the proofs of this crate's functions cite.
-pub mod Lines
 pub mod Lengths
 pub mod Sheets

@@ -25,7 +25,7 @@ use Rattle.protocol.proofs.ResultWords.{filled}
 use Rattle.sheet.proofs.Sheets.{passed}
 use Rattle.text.specs.Written.{written, endOf}
 use Rattle.text.proofs.Texts.{Wrote}
-use Rattle.printing.specs.Lines.{resultLines}
+use Rattle.lines.specs.Lines.{resultLines}
 use Rattle.printing.proofs.Lengths.{printed-short}
 
 -- LINES OF THE SAME WORDS

@@ -40,7 +40,9 @@ use Rattle.changes.specs.declared.Message.the-variants.{NoMessage, StartMessage
 use Rattle.changes.specs.declared.Change.{Change}
 use Rattle.changes.specs.Changes.{changeOf, senderOf, stateFrom}
 use Rattle.sending.specs.Sending.{namesChoice, votedFor, keepOwn, voteAfter, adjustAfter, adjustmentAfter, stateAfter, frameOf as messageFrame}
-use Rattle.actions.specs.Actions.{stateOf, stateFits, numbersFit, openVerdict, withReading, admittedBy, countedOf, messageOf, recordWith}
+use Rattle.actions.specs.Actions.{stateOf}
+use Rattle.admission.specs.Admission.{stateFits, numbersFit, openVerdict, withReading, admittedBy}
+use Rattle.counting.specs.Counting.{countedOf, messageOf, recordWith}
 use Rattle.actions.proofs.Built.{sending, builtBy, built, sendable, built-open}
 use Rattle.entries.specs.Entries.{deliveredFrame, entryVerdict}
 use Rattle.sheet.specs.declared.Sent.{Sent}

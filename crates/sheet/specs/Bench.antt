@@ -18,7 +18,7 @@ use Rattle.protocol.specs.Run.{History, recordOf, isDeliveredBy, frameSent, isF
 use Rattle.protocol.specs.declared.Sender.{Sender}
 use Rattle.changes.specs.declared.State.{State}
 use Rattle.changes.specs.Changes.{stateFrom}
-use Rattle.actions.specs.Actions.{recordWith}
+use Rattle.counting.specs.Counting.{recordWith}
 use Rattle.sheet.specs.declared.Read.{Read}
 use Rattle.sheet.specs.declared.Sent.{Sent}
 use Rattle.sheet.specs.declared.Ran.{Ran}

@@ -1,9 +1,9 @@
 // A run's arrays: the heads' states, what each head keeps by sender, at head × 16 + sender, and the frames sent. An entry
 // changes a few of their elements; whole records are made of them at the end.
 use crate::Sent;
-use actions::record_with;
 use changes::State;
 use changes::unstarted;
+use counting::record_with;
 use fresh::fresh_record;
 use protocol::Frame;
 use protocol::HeadRecord;

@@ -1,11 +1,88 @@
 //! `differential PROGRAM SEED COUNT`: gives generated sheets to PROGRAM, the proved
-//! program `corpus`, and compares what it prints with the plain form here. Stops at
-//! the first difference and saves that sheet as `difference.sheet`.
+//! program `corpus`, and compares what it prints with the fast form here; one sheet
+//! in twenty also goes through the plain form and the counters of [`reference::cover`].
+//! Stops at the first difference and saves that sheet as `difference.sheet`. Fails too
+//! if 10,000 sheets or more leave out an answer that the program can give.
 
-use std::io::{Read, Write};
-use std::process::{Command, Stdio};
+use std::collections::BTreeMap;
+use std::io::{Error, Read, Write};
+use std::process::{Command, ExitCode, Stdio};
+
+use reference::cover::{Cover, ALLOWED_COUNTS, BRANCHES};
+use reference::generate::{generate, Generated};
 
 const BATCH: u64 = 1_000;
+const PLAIN_EVERY: u64 = 20;
+/// From this many sheets on, each answer in `ANSWERS` must have been seen.
+const ENOUGH: u64 = 10_000;
+/// All answers but cause 5: the program's buffer has room for sixteen heads.
+const ANSWERS: [&str; 17] = [
+    "premises 0",
+    "premises 1",
+    "premises 2",
+    "premises 3",
+    "premises 4",
+    "premises 5",
+    "premises 6",
+    "premises 7",
+    "premises 8",
+    "refused 1",
+    "refused 2",
+    "refused 3",
+    "refused 4",
+    "refused 6",
+    "refused 7",
+    "refused 8",
+    "refused 9",
+];
+
+/// What was compared so far.
+#[derive(Default)]
+struct Tally {
+    sheets: u64,
+    bytes: u64,
+    full: u64,
+    classes: BTreeMap<String, u64>,
+    answers: BTreeMap<String, u64>,
+    plain: Cover,
+}
+
+impl Tally {
+    fn count(&mut self, made: &Generated, text: &str) {
+        self.sheets += 1;
+        self.bytes += made.bytes.len() as u64;
+        self.full += u64::from(made.bytes.len() == reference::program::MAX_BYTES);
+        *self.classes.entry(format!("{:?}", made.aim)).or_default() += 1;
+        let last = text.lines().last().unwrap_or_default();
+        let answer = last.split(' ').take(2).collect::<Vec<_>>().join(" ");
+        *self.answers.entry(answer).or_default() += 1;
+    }
+
+    /// The answers that no sheet got.
+    fn missing(&self) -> Vec<&str> {
+        let mut names = ANSWERS.to_vec();
+        names.retain(|name| !self.answers.contains_key(*name));
+        names
+    }
+
+    fn print(&self) {
+        println!("{} bytes, {} sheets of 12,290 words", self.bytes, self.full);
+        let plain = &self.plain;
+        println!(
+            "{} sheets through the fast form, {} of them through the plain form too",
+            self.sheets, plain.sheets
+        );
+        println!("made for: {:?}", self.classes);
+        println!("answers: {:?}", self.answers);
+        println!(
+            "plain form: {} of {} branches, {} of {ALLOWED_COUNTS} pairs n, f with all premises kept, {} sheets with the third point checked",
+            plain.branches.len(),
+            BRANCHES.len(),
+            plain.counts.len(),
+            plain.claims
+        );
+    }
+}
 
 /// What the program prints for a stream of sheets.
 fn ask(program: &str, stream: Vec<u8>) -> std::io::Result<Vec<u8>> {
@@ -14,19 +91,68 @@ fn ask(program: &str, stream: Vec<u8>) -> std::io::Result<Vec<u8>> {
         .stdout(Stdio::piped())
         .spawn()?;
     let mut input = child.stdin.take().expect("standard input is piped");
-    let writer = std::thread::spawn(move || input.write_all(&stream));
+    // If the program stops early, the sheet that is not answered shows it.
+    let writer = std::thread::spawn(move || drop(input.write_all(&stream)));
     let mut printed = Vec::new();
     child
         .stdout
         .take()
         .expect("standard output is piped")
         .read_to_end(&mut printed)?;
-    writer.join().expect("the writer ends")?;
+    writer.join().expect("the writer ends");
     child.wait()?;
     Ok(printed)
 }
 
-fn main() -> std::io::Result<()> {
+/// Saves a sheet that is answered differently, and says what was expected.
+fn differs(made: &Generated, expected: &str, printed: &[u8]) -> std::io::Result<String> {
+    std::fs::write("difference.sheet", &made.bytes)?;
+    let lines = expected.lines().count();
+    let printed = String::from_utf8_lossy(printed);
+    let printed: Vec<&str> = printed.lines().take(lines).collect();
+    let printed = printed.join("\n");
+    Ok(format!("expected:\n{expected}printed:\n{printed}"))
+}
+
+/// Compares the sheets from `first` to before `end`.
+fn batch(
+    program: &str,
+    seed: u64,
+    first: u64,
+    end: u64,
+    tally: &mut Tally,
+) -> std::io::Result<Result<(), String>> {
+    let sheets: Vec<Generated> = (first..end).map(|i| generate(seed, i)).collect();
+    let mut stream = Vec::new();
+    for made in &sheets {
+        stream.extend((made.bytes.len() as u32).to_be_bytes());
+        stream.extend(&made.bytes);
+    }
+    let printed = ask(program, stream)?;
+    let mut rest = printed.as_slice();
+    for (index, made) in (first..end).zip(&sheets) {
+        let at = format!("sheet {index} of seed {seed}, {:?}", made.aim);
+        let expected = reference::fast::printed(&made.bytes);
+        let Some(after) = rest.strip_prefix(expected.as_bytes()) else {
+            let what = differs(made, &expected, rest)?;
+            return Ok(Err(format!("difference at {at}\n{what}")));
+        };
+        rest = after;
+        if index % PLAIN_EVERY == 0 {
+            if let Err(why) = tally.plain.add(made) {
+                std::fs::write("difference.sheet", &made.bytes)?;
+                return Ok(Err(format!("plain form at {at}: {why}")));
+            }
+        }
+        tally.count(made, &expected);
+    }
+    if !rest.is_empty() {
+        return Ok(Err("more is printed than there are sheets".into()));
+    }
+    Ok(Ok(()))
+}
+
+fn main() -> Result<ExitCode, Error> {
     let arguments: Vec<String> = std::env::args().collect();
     let numbers = (
         arguments.get(2).and_then(|a| a.parse::<u64>().ok()),
@@ -34,44 +160,26 @@ fn main() -> std::io::Result<()> {
     );
     let (Some(program), (Some(seed), Some(count))) = (arguments.get(1), numbers) else {
         eprintln!("usage: differential PROGRAM SEED COUNT");
-        std::process::exit(2);
+        return Ok(ExitCode::from(2));
     };
-    let (mut judged, mut refused, mut bytes) = (0u64, 0u64, 0usize);
-    let mut index = 0;
-    while index < count {
-        let end = count.min(index + BATCH);
-        let sheets: Vec<Vec<u8>> = (index..end)
-            .map(|i| reference::generate::generate(seed, i).bytes)
-            .collect();
-        let mut stream = Vec::new();
-        for sheet in &sheets {
-            stream.extend((sheet.len() as u32).to_be_bytes());
-            stream.extend(sheet);
+    let mut tally = Tally::default();
+    while tally.sheets < count {
+        let first = tally.sheets;
+        let end = count.min(first + BATCH);
+        if let Err(what) = batch(program, seed, first, end, &mut tally)? {
+            println!("{what}");
+            return Ok(ExitCode::FAILURE);
         }
-        let printed = ask(program, stream)?;
-        let mut rest = printed.as_slice();
-        for (i, sheet) in sheets.iter().enumerate() {
-            let expected = reference::program::printed(sheet);
-            let Some(after) = rest.strip_prefix(expected.as_bytes()) else {
-                std::fs::write("difference.sheet", sheet)?;
-                println!("difference at sheet {} of seed {seed}", index + i as u64);
-                println!("expected:\n{expected}");
-                std::process::exit(1);
-            };
-            rest = after;
-            bytes += sheet.len();
-            if expected.starts_with("refused") {
-                refused += 1;
-            } else {
-                judged += 1;
-            }
+        if tally.sheets.is_multiple_of(100 * BATCH) {
+            eprintln!("{} sheets, no difference", tally.sheets);
         }
-        if !rest.is_empty() {
-            println!("more is printed than there are sheets");
-            std::process::exit(1);
-        }
-        index = end;
     }
-    println!("{count} sheets of seed {seed}, {bytes} bytes: {judged} judged, {refused} refused, no difference");
-    Ok(())
+    println!("{count} sheets of seed {seed}, no difference");
+    tally.print();
+    let missing = tally.missing();
+    if count >= ENOUGH && !missing.is_empty() {
+        println!("never seen: {}", missing.join(", "));
+        return Ok(ExitCode::FAILURE);
+    }
+    Ok(ExitCode::SUCCESS)
 }

@@ -1,5 +1,5 @@
 use Rattle.actions.proofs.Built.{counts-fit, sending-when, whole}
-use Rattle.actions.specs.Actions.{admissionOf}
+use Rattle.admission.specs.Admission.{admissionOf}
 use Rattle.changes.specs.Changes.{withMarks, changeOf}
 use Rattle.changes.specs.declared.Change.{Change}
 use Rattle.changes.specs.declared.State.{State}

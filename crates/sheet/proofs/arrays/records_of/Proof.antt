@@ -7,7 +7,7 @@ use lib.ListN.{length, getD, length-set}
 use borrow.Author.Tests.{le-ltb}
 use Rattle.protocol.specs.declared.HeadRecord.{HeadRecord}
 use Rattle.protocol.specs.Record.{fresh}
-use Rattle.actions.specs.Actions.{recordWith}
+use Rattle.counting.specs.Counting.{recordWith}
 use Rattle.sheet.specs.Bench.{noRecord, noState, rowOf, recordIn}
 use Rattle.sheet.proofs.Tables.{length-table, is-table, table-at, fill-over}
 use native.Mathlib.Omega.{arith}

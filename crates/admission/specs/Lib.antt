@@ -1,0 +1,2 @@
+-- Whether an action is taken.
+pub mod Admission

@@ -1,0 +1,2 @@
+-- What a head sends once it has counted its readings.
+pub mod Counting

@@ -1,0 +1,12 @@
+#!/bin/sh
+# differential.sh SEED SHEETS ACTIONS: builds the proved program corpus, the proved static library and the reference, and
+# compares them on so many fresh sheets and so many actions at one head. Fails at the first difference; a sheet that is
+# answered differently is saved as difference.sheet.
+set -eu
+[ $# -eq 3 ] || { echo "usage: differential.sh SEED SHEETS ACTIONS" >&2 && exit 2; }
+cd "$(dirname "$0")/.."
+rt check corpus
+rt staticlib board
+(cd reference && BOARD_LIB=../target/staticlib cargo build --release --offline --features board)
+reference/target/release/differential target/bin/corpus "$1" "$2"
+reference/target/release/actions "$1" "$3"

@@ -1,0 +1,255 @@
+//! One head of the proved static library beside the reference's: each action is
+//! taken by both, and all that can be seen of them is compared. The record's
+//! layout is the library's own; its ranges are document 01's.
+
+use crate::counter::counter_reading;
+use crate::record::{Kept, Record};
+use crate::step::{step, Frame, Input};
+use crate::words::{counts_allowed, Cause, Reading, MAX_HEADS, TIME_LIMIT};
+
+/// The memory of a head: twenty rows of four numbers.
+pub type Head = [u32; 80];
+/// Action, reading, sender, serial, choice, carried, and the mark "none".
+pub type Asked = [u32; 7];
+
+extern "C" {
+    fn daisarnica_fresh(head: *mut Head, n: u32, f: u32, own: u32) -> u32;
+    fn daisarnica_action(head: *mut Head, input: *const Asked, frame: *mut [u32; 5]) -> u32;
+    fn daisarnica_result(head: *const Head, ending: *mut [u32; 5]) -> u32;
+    fn daisarnica_correction(head: *const Head) -> i64;
+    fn daisarnica_reading(counter: u32, base: u32, reading: *mut u32) -> u32;
+}
+
+/// A frame as the interface writes it: the action that delivers it, serial,
+/// candidate or adjuster, what is carried, and the mark "none".
+fn frame_numbers(frame: Option<Frame>) -> [u32; 5] {
+    match frame {
+        None => [0; 5],
+        Some(Frame::Start) => [2, 0, 0, 0, 0],
+        Some(Frame::Vote {
+            serial,
+            candidate,
+            reading,
+        }) => {
+            let none = u32::from(reading.is_none());
+            [5, serial, candidate, reading.map_or(0, |r| r.0), none]
+        }
+        Some(Frame::Adjust {
+            serial,
+            adjuster,
+            adjustment,
+        }) => [8, serial, adjuster, adjustment.0, 0],
+    }
+}
+
+/// How the round ended, as the interface writes it.
+fn ending(record: &Record) -> [u32; 5] {
+    let outcome = record.outcome();
+    match (outcome, record.candidate, record.adjuster) {
+        (2, Some(candidate), Some(adjuster)) => {
+            let start = record.chosen_start_reading().map_or(0, |r| r.0);
+            [outcome, candidate, adjuster, record.adjustment.0, start]
+        }
+        _ => [outcome, 0, 0, 0, 0],
+    }
+}
+
+/// In the rows none is 0, and a number or reading is one more than itself.
+fn number(word: u32) -> Option<u32> {
+    word.checked_sub(1)
+}
+
+fn mark(word: u32) -> Option<bool> {
+    (word < 2).then_some(word == 1)
+}
+
+/// The record that a head's memory holds. None if a mark is neither 0 nor 1, or
+/// the spare number is not 0.
+pub fn record_in(head: &Head) -> Option<Record> {
+    let mut kept = [Kept::default(); MAX_HEADS];
+    for (row, kept) in head[16..].chunks(4).zip(&mut kept) {
+        kept.start_reading = number(row[0]).map(Reading);
+        kept.vote_reading = number(row[1]).map(Reading);
+        kept.vote_serial = number(row[2]);
+        kept.adjust_serial = number(row[3]);
+    }
+    if head[7] != 0 {
+        return None;
+    }
+    Some(Record {
+        n: head[0],
+        f: head[1],
+        own: head[2],
+        last_reading: Reading(head[3]),
+        kept,
+        candidate: number(head[10]),
+        adjuster: number(head[14]),
+        adjustment: Reading(head[6]),
+        votes_sent: head[11],
+        adjusts_sent: head[15],
+        start_sent: mark(head[4])?,
+        confirmed: mark(head[5])?,
+        vote_turn: mark(head[8])?,
+        vote_close: mark(head[9])?,
+        adjust_turn: mark(head[12])?,
+        adjust_close: mark(head[13])?,
+    })
+}
+
+/// Numbers at, below and above the ends of what may stand at a place of the
+/// memory of a head with this record, and such as a narrower place would cut.
+pub fn edges(place: usize, record: &Record) -> [u32; 9] {
+    let n = record.n;
+    let top = match (place / 4, place % 4) {
+        (0, 0) => MAX_HEADS as u32,
+        (0, 1) => n.saturating_sub(1) / 2,
+        (0, 2) => n.saturating_sub(1),
+        (0, 3) | (1, 2) => TIME_LIMIT - 1,
+        (1, 3) => 0,
+        (1..=3, 0 | 1) => 1,
+        (2 | 3, 2) => n,
+        (2, _) => n.saturating_sub(record.candidate.unwrap_or(n)),
+        (3, _) => n.saturating_sub(record.adjuster.unwrap_or(n)),
+        (_, 0 | 1) => TIME_LIMIT,
+        _ => 16,
+    };
+    let below = top.saturating_sub(1);
+    let above = top.saturating_add(1);
+    let cut = (top % 256).wrapping_add(256);
+    [0, 1, 2, below, top, above, cut, 255, u32::MAX]
+}
+
+/// What the reference says to an action: the record and frame after it, or a
+/// cause. A mark "none" that is neither 0 nor 1 is out of its range.
+fn expected(record: Option<&Record>, asked: &Asked) -> Result<(Record, Option<Frame>), Cause> {
+    let record = record.filter(|r| r.in_ranges()).ok_or(Cause(10))?;
+    if asked[6] > 1 {
+        return Err(Cause(6));
+    }
+    let input = Input {
+        action: asked[0],
+        reading: asked[1],
+        sender: asked[2],
+        serial: asked[3],
+        carried_head: asked[4],
+        carried_reading: asked[5],
+        none: asked[6] == 1,
+    };
+    step(record, &input)
+}
+
+/// A head at both: its memory, and the record that the reference keeps. None
+/// stands for memory that holds no record.
+#[derive(Clone)]
+pub struct Both {
+    pub head: Head,
+    pub record: Option<Record>,
+}
+
+impl Both {
+    /// A fresh head at both, or the cause for which both refuse it.
+    pub fn fresh(n: u32, f: u32, own: u32) -> Result<Result<Both, u32>, String> {
+        let untouched = [u32::MAX; 80];
+        let mut head = untouched;
+        // The pointer is to memory of this function that holds the whole record.
+        let cause = unsafe { daisarnica_fresh(&mut head, n, f, own) };
+        let expected = match (counts_allowed(n, f), own < n) {
+            (false, _) => 3,
+            (true, false) => 6,
+            (true, true) => 0,
+        };
+        let record = Some(Record::fresh(n, f, own));
+        let kept = if expected == 0 {
+            record_in(&head) == record
+        } else {
+            head == untouched
+        };
+        if cause != expected || !kept {
+            return Err(format!("fresh {n} {f} {own}: {cause}, {head:?}"));
+        }
+        Ok(if cause == 0 {
+            Ok(Both { head, record })
+        } else {
+            Err(cause)
+        })
+    }
+
+    /// The same memory with other numbers in it.
+    pub fn damaged(&self, head: Head) -> Both {
+        Both {
+            head,
+            record: record_in(&head),
+        }
+    }
+
+    /// Whether the memory holds a record in its ranges.
+    pub fn in_ranges(&self) -> bool {
+        self.record.as_ref().is_some_and(Record::in_ranges)
+    }
+
+    /// One action at both, which must agree: gives its cause, or 0.
+    pub fn act(&mut self, asked: &Asked) -> Result<u32, String> {
+        let before = self.head;
+        let mut frame = [9; 5];
+        let cause = unsafe { daisarnica_action(&mut self.head, asked, &mut frame) };
+        let (wanted, sent) = match expected(self.record.as_ref(), asked) {
+            Ok((after, sent)) => {
+                self.record = Some(after);
+                (0, sent)
+            }
+            Err(cause) => (cause.0, None),
+        };
+        let kept = if wanted == 0 {
+            record_in(&self.head) == self.record
+        } else {
+            self.head == before
+        };
+        if cause == wanted && frame == frame_numbers(sent) && kept {
+            self.same_ending().map(|()| cause)
+        } else {
+            Err(format!(
+                "{asked:?} of {before:?}: {cause} {frame:?} {:?}, not {wanted} {sent:?} {:?}",
+                self.head, self.record
+            ))
+        }
+    }
+
+    /// How the round ended and the correction, at both.
+    fn same_ending(&self) -> Result<(), String> {
+        let mut end = [9; 5];
+        let cause = unsafe { daisarnica_result(&self.head, &mut end) };
+        let correction = unsafe { daisarnica_correction(&self.head) };
+        let expected = match &self.record {
+            Some(record) if record.in_ranges() => {
+                let adopted = record.correction().filter(|_| record.outcome() == 2);
+                (0, ending(record), adopted.unwrap_or(0))
+            }
+            _ => (10, [0; 5], 0),
+        };
+        if (cause, end, correction) == expected {
+            Ok(())
+        } else {
+            let head = self.head;
+            Err(format!(
+                "ending of {head:?}: {cause} {end:?} {correction}, not {expected:?}"
+            ))
+        }
+    }
+}
+
+/// A counter's reading at both.
+pub fn same_counter(counter: u32, base: u32) -> Result<(), String> {
+    let mut reading = 9;
+    let cause = unsafe { daisarnica_reading(counter, base, &mut reading) };
+    let expected = match counter_reading(counter, base) {
+        Ok(reading) => (0, reading.0),
+        Err(cause) => (cause.0, 0),
+    };
+    if (cause, reading) == expected {
+        Ok(())
+    } else {
+        Err(format!(
+            "counter {counter} {base}: {cause} {reading}, not {expected:?}"
+        ))
+    }
+}

@@ -1,0 +1,105 @@
+//! A whole sheet at the proved static library, beside the reference.
+
+use crate::fast;
+use crate::judge::judge;
+use crate::results::HeadResult;
+use crate::sheet::replay;
+use crate::words::Refusal;
+
+/// What stands in the result buffer before a call, and behind its end.
+const UNTOUCHED: u32 = 0xA5C3_0F69;
+
+extern "C" {
+    fn daisarnica_replay_and_judge(
+        sheet: *const u32,
+        words: usize,
+        out: *mut u32,
+        out_words: usize,
+        answer: *mut [u32; 5],
+    ) -> u32;
+}
+
+/// All that a call leaves and returns.
+#[derive(Debug, PartialEq, Eq)]
+struct Answer {
+    /// The result buffer, and a word behind its end.
+    out: Vec<u32>,
+    replayed: Result<(), Refusal>,
+    judged: Result<u32, Refusal>,
+}
+
+impl Answer {
+    /// Replay's cause and place, judge's cause and place, first broken premise;
+    /// and the judge's answer as one number.
+    fn numbers(&self) -> ([u32; 5], u32) {
+        let mut numbers = [0; 5];
+        if let Err(refusal) = self.replayed {
+            numbers[0] = refusal.cause.0;
+            numbers[1] = refusal.place as u32;
+        }
+        match self.judged {
+            Ok(premise) => {
+                numbers[4] = premise;
+                (numbers, premise)
+            }
+            Err(refusal) => {
+                numbers[2] = refusal.cause.0;
+                numbers[3] = refusal.place as u32;
+                (numbers, 16 + refusal.cause.0)
+            }
+        }
+    }
+}
+
+fn plain_answer(words: &[u32], buffer: usize) -> Answer {
+    let mut out = vec![UNTOUCHED; buffer + 1];
+    let replayed = replay(words, &mut out[..buffer]);
+    let judged = judge(words);
+    Answer {
+        out,
+        replayed,
+        judged,
+    }
+}
+
+fn fast_answer(words: &[u32], buffer: usize) -> Answer {
+    let mut out = vec![UNTOUCHED; buffer + 1];
+    let replayed = fast::answer(words, Some(buffer)).map(|(results, _)| {
+        let written = results.iter().flat_map(HeadResult::words);
+        out.iter_mut()
+            .zip(written)
+            .for_each(|(to, word)| *to = word);
+    });
+    let judged = fast::answer(words, None).map(|(_, premise)| premise);
+    Answer {
+        out,
+        replayed,
+        judged,
+    }
+}
+
+/// One sheet at the library and at the fast form, with a result buffer of this
+/// length; at the plain form too where it is asked. Gives the replay's cause, or 0,
+/// and the judge's number.
+pub fn compare(words: &[u32], buffer: usize, plainly: bool) -> Result<(u32, u32), String> {
+    let expected = fast_answer(words, buffer);
+    if plainly && plain_answer(words, buffer) != expected {
+        return Err(format!("plain and fast form differ, not {expected:?}"));
+    }
+    let (mut out, mut answer) = (vec![UNTOUCHED; buffer + 1], [9; 5]);
+    // The pointers are to memory of this function of the lengths that are given.
+    let judged = unsafe {
+        daisarnica_replay_and_judge(
+            words.as_ptr(),
+            words.len(),
+            out.as_mut_ptr(),
+            buffer,
+            &mut answer,
+        )
+    };
+    if (answer, judged) == expected.numbers() && out == expected.out {
+        Ok((answer[0], judged))
+    } else {
+        Err(format!("{answer:?} {judged} {out:x?}, not {expected:x?}"))
+    }
+}
