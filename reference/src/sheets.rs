@@ -19,6 +19,16 @@ extern "C" {
     ) -> u32;
 }
 
+/// One call of the library: the judge's number, and the five numbers of both answers.
+pub fn proved(words: &[u32], out: &mut [u32]) -> (u32, [u32; 5]) {
+    let mut answer = [9; 5];
+    let (sheet, buffer) = (words.as_ptr(), out.as_mut_ptr());
+    // The pointers are to slices of the lengths that are given.
+    let judged =
+        unsafe { daisarnica_replay_and_judge(sheet, words.len(), buffer, out.len(), &mut answer) };
+    (judged, answer)
+}
+
 /// All that a call leaves and returns.
 #[derive(Debug, PartialEq, Eq)]
 struct Answer {
@@ -86,17 +96,8 @@ pub fn compare(words: &[u32], buffer: usize, plainly: bool) -> Result<(u32, u32)
     if plainly && plain_answer(words, buffer) != expected {
         return Err(format!("plain and fast form differ, not {expected:?}"));
     }
-    let (mut out, mut answer) = (vec![UNTOUCHED; buffer + 1], [9; 5]);
-    // The pointers are to memory of this function of the lengths that are given.
-    let judged = unsafe {
-        daisarnica_replay_and_judge(
-            words.as_ptr(),
-            words.len(),
-            out.as_mut_ptr(),
-            buffer,
-            &mut answer,
-        )
-    };
+    let mut out = vec![UNTOUCHED; buffer + 1];
+    let (judged, answer) = proved(words, &mut out[..buffer]);
     if (answer, judged) == expected.numbers() && out == expected.out {
         Ok((answer[0], judged))
     } else {

@@ -16,6 +16,7 @@ use Rattle.closed.specs.Closed.{closedBy}
 use Rattle.changes.specs.declared.State.{State}
 use Rattle.admission.specs.declared.Admission.{Admission}
 
+-- the marks by which an action is closed
 abbrev pub marksIn : State → Marks
 marksIn b =
     record {
@@ -55,10 +56,11 @@ unfoldable pub verdictOf : ℕ → State → Reading → Bool → Action → Ver
 verdictOf n b x sent a =
     cond (stateFits n b) (cond (numbersFit a) (openVerdict b x sent a) (Refused BadEntry)) (Refused BadRecord)
 
--- a refused action is a look at the last reading
+-- "Every accepted action makes its reading the last reading"
 abbrev pub withReading : State → Reading → State
 withReading b x = record { own = b .own; last = x; started = b .started; confirmed = b .confirmed; vote = b .vote; adjust = b .adjust; adjustment = b .adjustment }
 
+-- a refused action is a look at the last reading
 abbrev pub admittedBy : Verdict → State → Reading → Action → Admission
 admittedBy Accepted b x a = record { verdict = Accepted; state = withReading b x; action = a }
 admittedBy (Refused c) b x a = record { verdict = Refused c; state = b; action = Look }

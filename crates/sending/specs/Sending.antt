@@ -21,12 +21,14 @@ namesChoice StartMessage = false
 namesChoice (VoteMessage c) = true
 namesChoice (AdjustMessage c x) = true
 
+-- the head that is voted for; else the head itself
 abbrev pub votedFor : ℕ → Message → ℕ
 votedFor own NoMessage = own
 votedFor own StartMessage = own
 votedFor own (VoteMessage c) = c
 votedFor own (AdjustMessage c x) = own
 
+-- a vote carries the start reading of the candidate, x, which is "also h's own vote reading"
 abbrev pub keepOwn : Sender → Message → OptReading → Sender
 keepOwn k NoMessage x = k
 keepOwn k StartMessage x = k

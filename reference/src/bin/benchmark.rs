@@ -6,18 +6,9 @@
 use reference::fast;
 use reference::program::read_words;
 use reference::results::HeadResult;
+use reference::sheets::proved;
 use std::hint::black_box;
 use std::time::Instant;
-
-extern "C" {
-    fn daisarnica_replay_and_judge(
-        sheet: *const u32,
-        words: usize,
-        out: *mut u32,
-        out_words: usize,
-        answer: *mut [u32; 5],
-    ) -> u32;
-}
 
 const HEADS: u32 = 16;
 const ENTRIES: usize = 4096;
@@ -114,15 +105,6 @@ fn sheets() -> [(&'static str, Vec<u32>); 3] {
         ("full", round(1, 5, 8)),
         ("starts", round(11, 0, 0)),
     ]
-}
-
-fn proved(words: &[u32], out: &mut [u32; RESULT_WORDS]) -> (u32, [u32; 5]) {
-    let mut answer = [0; 5];
-    let (sheet, buffer) = (words.as_ptr(), out.as_mut_ptr());
-    let judged = unsafe {
-        daisarnica_replay_and_judge(sheet, words.len(), buffer, RESULT_WORDS, &mut answer)
-    };
-    (judged, answer)
 }
 
 /// That both forms give the same answer, and that all premises are kept.
