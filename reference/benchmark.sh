@@ -29,12 +29,12 @@ instructions() {
 table() {
     echo "| $1 | Overflow checks in the reference | Proved | Reference | Ratio |"
     echo "|---|---|---|---|---|"
-    awk '{ printf "| %s | %s | %d | %d | %.1f |\n", $2, $1 == "release" ? "on" : "off", $3, $4, $3 / $4 }' "$2"
+    awk '{ printf "| %s | %s | %d | %d | %.2f |\n", $2, $1 == "release" ? "on" : "off", $3, $4, $3 / $4 }' "$2"
 }
 
 for profile in release speed; do
     "target/$profile/benchmark" | sed "s/^/$profile /" >>"$work/time"
-    for sheet in m1 full starts; do
+    for sheet in m1 three five full starts; do
         echo "$profile $sheet $(instructions $profile $sheet proved) $(instructions $profile $sheet reference)" >>"$work/count"
     done
 done

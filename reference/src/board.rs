@@ -7,7 +7,9 @@ use crate::record::{Kept, Record};
 use crate::step::{step, Frame, Input};
 use crate::words::{counts_allowed, Cause, Reading, MAX_HEADS, TIME_LIMIT};
 
-/// The memory of a head: twenty rows of four numbers.
+/// The memory of a head: last reading, marks, candidate, votes, adjuster, adjusts,
+/// adjustment, n, f, own number, six zeros; then by sender, field after field,
+/// start reading, vote reading, vote serial and adjust serial.
 pub type Head = [u32; 80];
 /// Action, reading, sender, serial, choice, carried, and the mark "none".
 pub type Asked = [u32; 7];
@@ -54,63 +56,66 @@ fn ending(record: &Record) -> [u32; 5] {
     }
 }
 
-/// In the rows none is 0, and a number or reading is one more than itself.
+/// None is 0, and a number or reading is one more than itself.
 fn number(word: u32) -> Option<u32> {
     word.checked_sub(1)
 }
 
-fn mark(word: u32) -> Option<bool> {
-    (word < 2).then_some(word == 1)
-}
+/// The marks' weights in the one number that they make; the last says that there
+/// is a candidate.
+const MARKS: [u32; 7] = [1, 2, 4, 8, 16, 32, 64];
 
-/// The record that a head's memory holds. None if a mark is neither 0 nor 1, or
-/// the spare number is not 0.
+/// The record that a head's memory holds. None if a mark beyond the seven is set,
+/// the last of them disagrees with the candidate, or a spare number is not 0.
 pub fn record_in(head: &Head) -> Option<Record> {
     let mut kept = [Kept::default(); MAX_HEADS];
-    for (row, kept) in head[16..].chunks(4).zip(&mut kept) {
-        kept.start_reading = number(row[0]).map(Reading);
-        kept.vote_reading = number(row[1]).map(Reading);
-        kept.vote_serial = number(row[2]);
-        kept.adjust_serial = number(row[3]);
+    for (p, kept) in kept.iter_mut().enumerate() {
+        kept.start_reading = number(head[16 + p]).map(Reading);
+        kept.vote_reading = number(head[32 + p]).map(Reading);
+        kept.vote_serial = number(head[48 + p]);
+        kept.adjust_serial = number(head[64 + p]);
     }
-    if head[7] != 0 {
+    let marks = head[1];
+    let [start_sent, confirmed, vote_turn, vote_close, adjust_turn, adjust_close, candidate] =
+        MARKS.map(|weight| marks & weight != 0);
+    if head[10..16] != [0; 6] || marks >= 128 || candidate != (head[2] != 0) {
         return None;
     }
     Some(Record {
-        n: head[0],
-        f: head[1],
-        own: head[2],
-        last_reading: Reading(head[3]),
+        n: head[7],
+        f: head[8],
+        own: head[9],
+        last_reading: Reading(head[0]),
         kept,
-        candidate: number(head[10]),
-        adjuster: number(head[14]),
+        candidate: number(head[2]),
+        adjuster: number(head[4]),
         adjustment: Reading(head[6]),
-        votes_sent: head[11],
-        adjusts_sent: head[15],
-        start_sent: mark(head[4])?,
-        confirmed: mark(head[5])?,
-        vote_turn: mark(head[8])?,
-        vote_close: mark(head[9])?,
-        adjust_turn: mark(head[12])?,
-        adjust_close: mark(head[13])?,
+        votes_sent: head[3],
+        adjusts_sent: head[5],
+        start_sent,
+        confirmed,
+        vote_turn,
+        vote_close,
+        adjust_turn,
+        adjust_close,
     })
 }
 
-/// Numbers at, below and above the ends of what may stand at a place of the
+/// Numbers at, below and above the ends of what may stand at an index of the
 /// memory of a head with this record, and such as a narrower place would cut.
-pub fn edges(place: usize, record: &Record) -> [u32; 9] {
+pub fn edges(index: usize, record: &Record) -> [u32; 9] {
     let n = record.n;
-    let top = match (place / 4, place % 4) {
-        (0, 0) => MAX_HEADS as u32,
-        (0, 1) => n.saturating_sub(1) / 2,
-        (0, 2) => n.saturating_sub(1),
-        (0, 3) | (1, 2) => TIME_LIMIT - 1,
-        (1, 3) => 0,
-        (1..=3, 0 | 1) => 1,
-        (2 | 3, 2) => n,
-        (2, _) => n.saturating_sub(record.candidate.unwrap_or(n)),
-        (3, _) => n.saturating_sub(record.adjuster.unwrap_or(n)),
-        (_, 0 | 1) => TIME_LIMIT,
+    let top = match index {
+        0 | 6 => TIME_LIMIT - 1,
+        1 => 127,
+        2 | 4 => n,
+        3 => n.saturating_sub(record.candidate.unwrap_or(n)),
+        5 => n.saturating_sub(record.adjuster.unwrap_or(n)),
+        7 => MAX_HEADS as u32,
+        8 => n.saturating_sub(1) / 2,
+        9 => n.saturating_sub(1),
+        10..=15 => 0,
+        16..=47 => TIME_LIMIT,
         _ => 16,
     };
     let below = top.saturating_sub(1);

@@ -1,2 +1,3 @@
--- What holds of a record in a board's memory.
-pub mod Kept
+-- Laws that the proofs of this crate's functions cite.
+pub mod Frames
+pub mod Rows

@@ -1,2 +1,1 @@
--- What a board written in C gives and gets.
 pub mod Numbers

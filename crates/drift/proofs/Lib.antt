@@ -1,1 +1,2 @@
-pub mod Bounds
+-- The judge's signed numbers.
+pub mod Differences

@@ -1,37 +1,28 @@
 // Premise 2 of every two entries of a head, by two differences that each entry has by itself: of e after d the premise says
 // that neither difference of e is more than 1,000,000 above that of d. So the least of each is all to be kept.
 ghost use mathlib.Core.Path.{_≡_};
-ghost use Prim.Native.Nat.{_^_, _<_};
-ghost use lib.IntN.{subℕ};
 ghost use Rattle.drift.specs.Drift.{leadOf, lagOf, lesserOf, staysSteady};
 use protocol::Entry;
 
 // Millionths in one: drift is in parts per million.
-const MILLION: u64 = 1000000;
-
-fn difference(a: u64, b: u64) -> i64
-    requires { ⌜ (a < 2 ^ 62) × (b < 2 ^ 62) ⌝ }
-    ensures { λ z. ⌜ z ≡ subℕ a b ⌝ }
-{
-    a as i64 - b as i64
-}
+const MILLION: i64 = 1000000;
 
 // How far the head's clock has run ahead of real time, less what drift allows since real time 0 and less the slack.
 pub fn lead(drift: u16, e: Entry, slack: u32) -> i64
     ensures { λ z. ⌜ z ≡ leadOf drift e slack ⌝ }
 {
-    let t = e.time.0 as u64;
-    let a = e.reading.0 as u64;
-    difference(MILLION * a, (MILLION + drift as u64) * t + slack as u64)
+    let t = e.time.0 as i64;
+    let a = e.reading.0 as i64;
+    MILLION * (a - t) - drift as i64 * t - slack as i64
 }
 
 // How far it has fallen behind, less the same.
 pub fn lag(drift: u16, e: Entry, slack: u32) -> i64
     ensures { λ z. ⌜ z ≡ lagOf drift e slack ⌝ }
 {
-    let t = e.time.0 as u64;
-    let a = e.reading.0 as u64;
-    difference(MILLION * t, MILLION * a + drift as u64 * t + slack as u64)
+    let t = e.time.0 as i64;
+    let a = e.reading.0 as i64;
+    0 - MILLION * (a - t) - drift as i64 * t - slack as i64
 }
 
 pub fn lesser(x: i64, y: i64) -> i64

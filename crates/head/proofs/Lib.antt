@@ -1,2 +1,3 @@
 -- What the step and the counter rest on.
-pub mod Laws
+pub mod Steps
+pub mod Counts

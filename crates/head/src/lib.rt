@@ -2,42 +2,43 @@
 mod counter;
 mod ending;
 
-use actions::take_action;
 pub use counter::counter_reading;
 pub use ending::chosen_start;
 pub use ending::outcome;
-use inputs::action_of;
-use inputs::input_fits;
-use protocol::Cause;
+use head_causes::row_verdict;
+use head_record::frame_in;
+use head_record::record_in;
+use head_record::row_of;
+use head_step::take;
 use protocol::Frame;
 use protocol::HeadRecord;
 use protocol::Input;
-use protocol::Reading;
 use protocol::Stepped;
 use protocol::Verdict;
-use ranges::record_in_range;
 ghost use mathlib.Core.Path.{_≡_};
 ghost use Rattle.protocol.specs.Step.{step};
 
-// The step of one head: causes 10, 6, 8 and 9 in this order, then what the action does.
+// The step of one head, on the record's row: causes 10, 6, 8 and 9 in this order, then what the action does.
 pub fn step(r: HeadRecord, i: Input) -> Stepped
     ensures { λ s. ⌜ s ≡ step r i ⌝ }
 {
-    if record_in_range(r) {
-        if input_fits(r.n, i) {
-            take_action(r, Reading(i.reading), true, action_of(i))
-        } else {
+    let mut row = row_of(r);
+    let v = row_verdict(&row, i);
+    match v {
+        Verdict::Accepted => {
+            let s = take(&mut row, i);
+            let after = record_in(&row);
+            let frame = frame_in(s);
             Stepped {
-                verdict: Verdict::Refused(Cause::BadEntry),
-                after: r,
-                frame: Frame::NoFrame,
+                verdict: Verdict::Accepted,
+                after,
+                frame,
             }
         }
-    } else {
-        Stepped {
-            verdict: Verdict::Refused(Cause::BadRecord),
+        Verdict::Refused(c) => Stepped {
+            verdict: Verdict::Refused(c),
             after: r,
             frame: Frame::NoFrame,
-        }
+        },
     }
 }

@@ -1,2 +1,2 @@
--- What the proofs of several functions use.
+-- What the walk of `board_step` uses.
 mod Stored

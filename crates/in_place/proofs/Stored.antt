@@ -1,5 +1,5 @@
--- What the walks of the two functions on a lent record share: the contracts of `after_of`, which gives the record to
--- store, and of `answer_of`, which gives the answer; what each tells; and what a call of each is handed.
+-- What the walk of `board_step` asks of the two functions that take a step's result apart: the contracts of `after_of`, which
+-- gives the record to store, and of `answer_of`, which gives the answer; what each tells; and what a call of each is handed.
 -- Assumes nothing.
 use mathlib.Core.Path.{_≡_}
 use mathlib.Core.List.{[], _∷_}

@@ -1,2 +1,2 @@
--- What a board is asked and answers.
+-- What a board answers.
 pub mod Board

@@ -1,16 +1,11 @@
-// The numbers that a caller gives for one head: whether they fit, and the action that they make.
-use protocol::Action;
+// The numbers that a caller gives for one head: whether they fit.
 use protocol::Input;
-use protocol::OptReading;
-use protocol::Reading;
 use words::is_time;
 ghost use mathlib.Core.Path.{_≡_};
-ghost use mathlib.Core.Bool.{not, cond, _&&_, _||_};
-ghost use Prim.Native.Nat.{_<_};
+ghost use mathlib.Core.Bool.{not, _&&_, _||_};
 ghost use lib.Dec.{eqb};
 ghost use Rattle.protocol.specs.Words.{hasSerial, hasSender, zeroWhereUnused};
-ghost use Rattle.protocol.specs.Record.{reading};
-ghost use Rattle.protocol.specs.Step.{inputFits, actionOf};
+ghost use Rattle.protocol.specs.Step.{inputFits};
 
 fn has_serial(a: u32) -> bool
     ensures { λ b. ⌜ b ≡ hasSerial a ⌝ }
@@ -57,50 +52,16 @@ fn none_fits(a: u32, none: bool, carried: u32) -> bool
 }
 
 // Whether the numbers fit a bench of n heads (else cause 6).
-pub fn input_fits(n: u8, i: Input) -> bool
+pub fn input_fits(n: u32, i: Input) -> bool
     ensures { λ b. ⌜ b ≡ inputFits n i ⌝ }
 {
-    let m = n as u32;
     i.action <= 9
-        && (i.sender < m
+        && (i.sender < n
             && (i.serial <= 15
                 && (zero_where_unused(i.action, i.sender, i.serial)
                     && (is_time(i.reading)
-                        && (i.choice < m
+                        && (i.choice < n
                             && (is_time(i.carried)
                                 && (carried_fits(i.action, i.choice, i.carried)
                                     && none_fits(i.action, i.none, i.carried))))))))
-}
-
-fn carried_reading(none: bool, carried: u32) -> OptReading
-    ensures { λ x. ⌜ x ≡ cond none OptReading.NoReading (OptReading.SomeReading (reading carried)) ⌝ }
-{
-    if none {
-        OptReading::NoReading
-    } else {
-        OptReading::SomeReading(Reading(carried))
-    }
-}
-
-// The action that fitting numbers make.
-pub fn action_of(i: Input) -> Action
-    requires { ⌜ (i .sender < 16) × (i .serial < 16) × (i .choice < 16) ⌝ }
-    ensures { λ a. ⌜ a ≡ actionOf i ⌝ }
-{
-    let p = i.sender as u8;
-    let k = i.serial as u8;
-    let c = i.choice as u8;
-    let n = i.action;
-    match n {
-        1 => Action::StartSent,
-        2 => Action::StartDelivered(p),
-        3 => Action::StartConfirmed,
-        4 => Action::VoteTurn,
-        5 => Action::VoteDelivered(p, k, c, carried_reading(i.none, i.carried)),
-        6 => Action::VoteClose,
-        7 => Action::AdjustTurn,
-        8 => Action::AdjustDelivered(p, k, c, Reading(i.carried)),
-        9 => Action::AdjustClose,
-        _ => Action::Look,
-    }
 }

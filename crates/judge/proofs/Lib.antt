@@ -1,9 +1,3 @@
-pub mod Steady
-pub mod Heads
-pub mod Starts
-pub mod Sent
-pub mod Moments
-pub mod Reached
-pub mod Entries
-pub mod Keeps
-pub mod Verdicts
+-- Laws that the proofs of this crate's functions cite.
+pub mod Ends
+pub mod Claims

@@ -1,59 +1,73 @@
-// The judge of the eight premises, and what holds of a sheet that keeps them all.
-mod pass;
-
-use pass::sending_entries;
-use pass::watch;
-use premises::enough_correct;
-use premises::first_broken;
-use premises::took_all;
+// The replay of a run sheet and the judge of the eight premises, by one pass over its entries; and what holds of a sheet that
+// keeps them all.
+use head_row::fresh_row;
+use protocol::Cause;
 use protocol::Judged;
 use protocol::Replayed;
+use protocol::Report;
 use protocol::Verdict;
-use sheet::Ran;
-use words::setting_of;
+use results::write_words;
+use sheet::number_heads;
+use sheet::run_entries;
+use sheet_words::entry_count;
+use sheet_words::setting_at;
+use sheet_words::sheet_verdict;
 ghost use mathlib.Core.Path.{_≡_};
-ghost use lib.ListN.{length};
-ghost use Rattle.protocol.specs.Premises.{judge};
+ghost use Prim.Native.Nat.{_≤_};
 ghost use Rattle.protocol.specs.Results.{replay};
-ghost use Rattle.protocol.specs.Words.{settingAt};
-ghost use Rattle.sheet.specs.Bench.{answerOf, runFirst};
-ghost use Rattle.judge.specs.Claims.{Agrees, AgreesInWords};
+ghost use Rattle.protocol.specs.Premises.{judge};
+ghost use Rattle.protocol.specs.Claim.{Agrees, AgreesInWords};
+ghost use Rattle.judge.specs.Replays.{Replays};
 
-// A replay's answer and the judge's, of the same sheet.
-pub struct Report {
-    pub replayed: Replayed,
-    pub judged: Judged,
-}
-
-// The judge's answer of a sheet whose run is known.
-fn judge_of(sheet: &[u32], ran: Ran) -> Judged
-    requires { ⌜ ran ≡ answerOf (settingAt (now sheet)) (runFirst (now sheet) (length (now sheet))) ⌝ }
-    ensures { λ j. ⌜ (j ≡ judge (now (sheet .entry))) × Agrees (now (sheet .entry)) j ⌝ }
+// "Sheet order: 1 to 5, then entry by entry 6 to 9": cause 5, then what the pass answered; else the result words.
+fn replay_of(judged: Judged, n: u8, heads: &[[u32; 80]; 16], out: &mut [u32]) -> Replayed
+    requires { ⌜ n ≤ 16 ⌝ }
+    ensures { λ r. ⌜ Replays judged n (now (heads .entry)) (now (out .entry)) r (now (out .exit)) ⌝ }
 {
-    let v = ran.verdict;
-    match v {
-        Verdict::Refused(c) => Judged::Unjudged(c, ran.place),
-        Verdict::Accepted => {
-            let g = setting_of(sheet[0], sheet[1]);
-            let sent = ran.sent;
-            let sending = sending_entries(sent);
-            let seen = watch(sheet, g, (sheet.len() - 2) / 3, &sending);
-            let took = seen.took;
-            let votes = seen.votes;
-            let adjusts = seen.adjusts;
-            let ended = took_all(g, took[6], took[7], took[9]);
-            first_broken(
-                enough_correct(g),
-                seen.steady,
-                seen.heard,
-                ended,
-                votes.heard,
-                votes.quiet,
-                adjusts.heard,
-                adjusts.quiet,
-            )
+    if out.len() < 3 * n as usize {
+        return Replayed::TurnedBack(Cause::ShortBuffer, 0);
+    }
+    match judged {
+        Judged::Unjudged(c, place) => Replayed::TurnedBack(c, place),
+        Judged::Kept => {
+            write_words(out, n, heads);
+            Replayed::Filled
+        }
+        Judged::Broken(_) => {
+            write_words(out, n, heads);
+            Replayed::Filled
         }
     }
+}
+
+// Replays a sheet into a lent buffer, and judges it. Of a sheet that keeps all premises the third point holds of the words that
+// are left in the buffer, unless cause 5 turned the replay back.
+pub fn replay_and_judge(sheet: &[u32], out: &mut [u32]) -> Report
+    ensures { λ r. ⌜ (r .replayed ≡ replay (now (sheet .entry)) (now (out .entry)) .answer) × (r .judged ≡ judge (now (sheet .entry))) × (now (out .exit) ≡ replay (now (sheet .entry)) (now (out .entry)) .buffer) × AgreesInWords (now (sheet .entry)) r (now (out .exit)) ⌝ }
+{
+    let v = sheet_verdict(sheet);
+    match v {
+        Verdict::Refused(c) => Report {
+            replayed: Replayed::TurnedBack(c, 0),
+            judged: Judged::Unjudged(c, 0),
+        },
+        Verdict::Accepted => {
+            let g = setting_at(sheet);
+            let fresh = fresh_row(g.n as u32, g.f as u32, 0);
+            let mut heads = [fresh; 16];
+            number_heads(&mut heads);
+            let judged = run_entries(sheet, g, entry_count(sheet), &mut heads);
+            let replayed = replay_of(judged, g.n, &heads, out);
+            Report { replayed, judged }
+        }
+    }
+}
+
+pub fn replay(sheet: &[u32], out: &mut [u32]) -> Replayed
+    ensures { λ r. ⌜ (r ≡ replay (now (sheet .entry)) (now (out .entry)) .answer) × (now (out .exit) ≡ replay (now (sheet .entry)) (now (out .entry)) .buffer) ⌝ }
+{
+    let report = replay_and_judge(sheet, out);
+    report.replayed
 }
 
 // "The judge, which has no result buffer, tests the same without 5": the first broken premise, or the refusal. Of a sheet that
@@ -61,17 +75,7 @@ fn judge_of(sheet: &[u32], ran: Ran) -> Judged
 pub fn judge(sheet: &[u32]) -> Judged
     ensures { λ j. ⌜ (j ≡ judge (now (sheet .entry))) × Agrees (now (sheet .entry)) j ⌝ }
 {
-    let ran = sheet::run(sheet, sheet.len());
-    judge_of(sheet, ran)
-}
-
-// Replays a sheet into a lent buffer, and judges it, both by one run. Of a sheet that keeps all premises the third point
-// holds of the words that are left in the buffer, unless cause 5 turned the replay back.
-pub fn replay_and_judge(sheet: &[u32], out: &mut [u32]) -> Report
-    ensures { λ r. ⌜ (r .replayed ≡ replay (now (sheet .entry)) (now (out .entry)) .answer) × (r .judged ≡ judge (now (sheet .entry))) × (now (out .exit) ≡ replay (now (sheet .entry)) (now (out .entry)) .buffer) × AgreesInWords (now (sheet .entry)) r (now (out .exit)) ⌝ }
-{
-    let ran = sheet::run(sheet, sheet.len());
-    let replayed = results::replay_of(sheet, ran, out);
-    let judged = judge_of(sheet, ran);
-    Report { replayed, judged }
+    let mut none = [0u32; 1];
+    let report = replay_and_judge(sheet, &mut none);
+    report.judged
 }

@@ -1,8 +1,6 @@
-// The premises that are tested at the end, what is kept for premises 5 to 8 from one entry to the next, and the first
-// broken premise.
+// Premise 1, and the first broken premise.
 use protocol::Judged;
 use protocol::Setting;
-use sets::has_all;
 use words::is_correct;
 ghost use mathlib.Core.Path.{_≡_};
 ghost use mathlib.Core.Bool.{cond};
@@ -11,30 +9,6 @@ ghost use Prim.Native.Nat.{_≤_};
 ghost use Rattle.protocol.specs.Premises.{premise1, firstBroken};
 ghost use Rattle.protocol.specs.Base.{countBelow};
 ghost use Rattle.protocol.specs.Words.{isCorrect};
-ghost use Rattle.premises.specs.Between.{watchAfter};
-ghost use Rattle.premises.specs.Ended.{tookAll};
-
-// What is kept for premises 5 and 6, or for 7 and 8: whether a correct head has closed the phase; whether no frame reached
-// a correct head since then; and whether each of the two premises has been kept so far.
-pub struct Watch {
-    pub closed: bool,
-    pub on_time: bool,
-    pub quiet: bool,
-    pub heard: bool,
-}
-
-// After an entry: delivery and close say whether it is one of a correct head, heard what premise 5 or 7 says of the entries
-// before it.
-pub fn watch_after(w: Watch, delivery: bool, close: bool, heard: bool) -> Watch
-    ensures { λ x. ⌜ x ≡ watchAfter w delivery close heard ⌝ }
-{
-    Watch {
-        closed: close | w.closed,
-        on_time: (!delivery | !w.closed) & w.on_time,
-        quiet: (!close | w.on_time) & w.quiet,
-        heard: (!(close & !w.closed) | heard) & w.heard,
-    }
-}
 
 fn one_if(b: bool) -> u8
     ensures { λ k. ⌜ k ≡ cond b 1 0 ⌝ }
@@ -59,13 +33,6 @@ pub fn enough_correct(g: Setting) -> bool
     ensures { λ b. ⌜ b ≡ premise1 g ⌝ }
 {
     g.n as u16 <= correct_heads(g) as u16 + g.f as u16
-}
-
-// "4. Every correct head takes actions 6, 7 and 9": the heads that took each are given.
-pub fn took_all(g: Setting, closed: u16, turned: u16, ended: u16) -> bool
-    ensures { λ b. ⌜ b ≡ tookAll g closed turned ended ⌝ }
-{
-    has_all(closed & (turned & ended), g.correct)
 }
 
 // The first broken premise.

@@ -22,7 +22,7 @@ use Rattle.protocol.specs.Claim.{endingInWords}
 use Rattle.protocol.specs.Program.{headLine, headLines, refusedLine, bigEndian, printRun, printSheet, printed}
 use Rattle.protocol.proofs.Valid.{heads-fit, accepted-sheet}
 use Rattle.protocol.proofs.ResultWords.{filled}
-use Rattle.sheet.proofs.Sheets.{passed}
+use Rattle.protocol.proofs.Fits.{sheet-fits}
 use Rattle.text.specs.Written.{written, endOf}
 use Rattle.text.proofs.Texts.{Wrote}
 use Rattle.lines.specs.Lines.{resultLines}
@@ -52,7 +52,7 @@ words-first g h rest i l = List·getD-append (wordsFrom (recordOf g h) 0 (g .n))
 
 module _ (ws out : List ℕ) (room : 48 ≤ length out) where
   heads-fit-in : (v : Verdict) → sheetVerdict ws ≡ v → v ≡ Accepted → 3 * settingAt ws .n ≤ length out
-  heads-fit-in v is e = let few = heads-fit (settingAt ws .n) (settingAt ws .f) (passed ws v (sym is) e .heads) .1 in omega arith
+  heads-fit-in v is e = let few = heads-fit (settingAt ws .n) (settingAt ws .f) (sheet-fits ws (is ∙ e) .heads) .1 in omega arith
 
   stopped-answer : (c : Cause) (p : ℕ) → runSheet ws ≡ stopped c p → replay ws out .answer ≡ TurnedBack c p
   unfolding replay runSheet
@@ -69,7 +69,7 @@ module _ (ws out : List ℕ) (room : 48 ≤ length out) where
     where
       go : (v : Verdict) → sheetVerdict ws ≡ v → Filled ≡ fillAfter v ws out .answer → 2 ≤ length ws
       go (Refused d) was h = absurd (let z : _≡_ {A = ℕ} 0 1 = cc in omega arith)
-      go Accepted was h = passed ws Accepted (sym was) refl .at-least-two
+      go Accepted was h = sheet-fits ws was .at-least-two
 
   -- a sheet that is turned back
   pub prints-refusal : (r : Replayed) (c : Cause) (p : ℕ) → r ≡ replay ws out .answer → r ≡ TurnedBack c p → refusedLine c p ≡ printSheet ws

@@ -16,41 +16,17 @@ use Rattle.protocol.specs.Record.{isNumber, reading, noSender, keptOf, s
 use Rattle.protocol.specs.Median.{median}
 use Rattle.protocol.specs.Step.{choose, withStart, withVoteReading, withVoted, withAdjusted, withLast, accepted, silent, vote, adjust, mayLead, lead, voteReadings, mayAdjust, propose, isAbove, outranks, delivered, effect, isClosed}
 use Rattle.protocol.specs.Run.{isDeliveredBy, carriedReading}
+pub use Rattle.protocol.specs.Record.{Kind, votes, adjusts, phaseOf}
+pub use Rattle.protocol.specs.Step.{number}
+pub use Rattle.protocol.specs.Premises.{delivery, closing}
 use Rattle.protocol.proofs.Tests.{absurd-bool, cond-elim, not-true, and-left, and-right, or-left, or-right}
 
--- the two phases, and what each has of a record, a sender and the actions
-pub data Kind : Type 0 where
-  votes adjusts : Kind
-
-abbrev pub phaseOf : Kind → HeadRecord → Phase
-phaseOf votes r = r .vote
-phaseOf adjusts r = r .adjust
-
+-- what each phase has of a sender
 abbrev pub takenOf : Kind → Sender → OptNumber
 takenOf votes k = k .voted
 takenOf adjusts k = k .adjusted
 
-abbrev pub delivery : Kind → ℕ
-delivery votes = 5
-delivery adjusts = 8
-
-abbrev pub closing : Kind → ℕ
-closing votes = 6
-closing adjusts = 9
-
--- an action's number, and the frame that it delivers, with its sender
-abbrev pub number : Action → ℕ
-number Look = 0
-number StartSent = 1
-number (StartDelivered p) = 2
-number StartConfirmed = 3
-number VoteTurn = 4
-number (VoteDelivered p k c x) = 5
-number VoteClose = 6
-number AdjustTurn = 7
-number (AdjustDelivered p k c x) = 8
-number AdjustClose = 9
-
+-- the frame that an action delivers, with its sender
 pub record Delivery : Type 0 where
   pub sender : ℕ
   pub frame : Frame
@@ -511,7 +487,7 @@ own-kept r (VoteDelivered p k c x) e = go (passedOver votes r p k)
   where
     go : (b : Bool) → getD (cond b (r .senders) (set (r .senders) p (withVoted (withVoteReading (keptOf r p) x) k))) (r .own) noSender .vote ≡ voteOf r (r .own)
     go true = refl
-    go false = ap (λ (z : Sender). z .vote) (getD-set-other (r .senders) p (r .own) _ noSender (λ d. eqb-false p (r .own) e (sym d)))
+    go false = ap (λ (z : Sender). z .vote) (getD-set-other (r .senders) p (r .own) _ noSender (λ d. eqb-false p (r .own) (or-left (eqb p (r .own)) false e) (sym d)))
 own-kept r VoteClose e = refl
 own-kept r AdjustTurn e = refl
 own-kept r (AdjustDelivered p k c x) e = column-kept (λ z. z .vote) r p (Adjust k c x) (r .own) refl

@@ -12,7 +12,7 @@ use lib.ListN.{length, getD}
 use lib.Pow.{pow-mono}
 use borrow.Author.Tests.{ltb-true, ltb-false, leb-true, eqb-true, ne-eqb}
 use Rattle.protocol.specs.Types.{Setting, Input, Cause, Verdict, Accepted, Refused}
-use Rattle.protocol.specs.Words.{mostWords, bits, kindOf, timeOf, settingOf, isCorrect, firstWordFits, secondWordFits, hasSerial, hasSender, zeroWhereUnused, entryOf, entryFits, entryCount}
+use Rattle.protocol.specs.Words.{mostWords, bits, kindOf, timeOf, settingOf, isCorrect, headsFit, settingAt, firstWordFits, secondWordFits, hasSerial, hasSender, zeroWhereUnused, entryOf, entryFits, entryCount}
 use Rattle.protocol.specs.Step.{inputFits}
 use Rattle.protocol.specs.Causes.{sheetVerdict}
 use Rattle.protocol.specs.Program.{bigEndian}
@@ -60,10 +60,16 @@ bit-0-for-head-0 g = ap (λ (x : ℕ). eqb (x % 2) 1) (let whole : g .correct / 
 
 -- causes 1 to 4
 pub record FittingSheet (ws : List ℕ) : Type 0 where
+  pub at-least-two : 2 ≤ length ws
   pub whole-entries : length ws ≡ 2 + 3 * entryCount ws
   pub most-entries : entryCount ws ≤ 4096
   pub first-word : firstWordFits (getD ws 0 0) ≡ true
   pub second-word : secondWordFits (getD ws 1 0) ≡ true
+  pub heads : headsFit (settingAt ws .n) (settingAt ws .f) ≡ true
+
+heads-in-word : (a b : ℕ) → firstWordFits a ≡ true → headsFit (settingOf a b .n) (settingOf a b .f) ≡ true
+unfolding firstWordFits settingOf
+heads-in-word a b e = and-left (headsFit (bits a 27 20) (bits a 19 16)) _ (and-right (eqb (kindOf a) 1) _ e)
 
 refused-not-accepted : {A : Type 0} (c : Cause) → Refused c ≡ Accepted → A
 refused-not-accepted c e = absurd (let z : _≡_ {A = ℕ} 0 1 = cc in omega arith)
@@ -79,7 +85,14 @@ sheet-fits ws =
     let most = ltb-false mostWords (length ws) few in
     let two = ltb-false (length ws) 2 (or-left (ltb (length ws) 2) _ whole) in
     let threes = eqb-true ((length ws - 2) % 3) 0 (not-false (or-right (ltb (length ws) 2) _ whole)) in
-    record { whole-entries = omega arith; most-entries = omega arith; first-word = not-false first; second-word = not-false second }))))
+    record {
+      at-least-two = two;
+      whole-entries = omega arith;
+      most-entries = omega arith;
+      first-word = not-false first;
+      second-word = not-false second;
+      heads = heads-in-word _ (getD ws 1 0) (not-false first);
+    }))))
   where
     Fits : Verdict → Type 0
     Fits v = v ≡ Accepted → FittingSheet ws

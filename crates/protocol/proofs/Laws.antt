@@ -170,7 +170,7 @@ adjust-serial-taken r p k a x h o b =
 pub own-frame-closed : (r : HeadRecord) (k c : ℕ) (x : OptReading) (y : Reading)
     → (isClosed r (VoteDelivered (r .own) k c x) ≡ true) × (isClosed r (AdjustDelivered (r .own) k c y) ≡ true)
 unfolding isClosed
-own-frame-closed r k c x y = (eqb-same (r .own), eqb-same (r .own))
+own-frame-closed r k c x y = rw (eqb-same (r .own)) (refl, refl)
 
 lead-keeps-turn : (r : HeadRecord) → lead r .after .vote .turn ≡ r .vote .turn
 unfolding lead vote

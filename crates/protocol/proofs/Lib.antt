@@ -1,5 +1,6 @@
 -- What is proved of the definitions.
 pub mod Tests
+pub mod Tables
 pub mod Signed
 pub mod Moments
 pub mod Effects
@@ -7,8 +8,10 @@ pub mod Laws
 pub mod Causes
 pub mod Fits
 pub mod Valid
+pub mod Medians
 pub mod Ranges
 pub mod Phases
+pub mod Runs
 pub mod Frames
 pub mod Starts
 pub mod Rounds

@@ -8,20 +8,22 @@
 use mathlib.Core.Path.{_≡_, refl, sym, _∙_, subst}
 use mathlib.Core.Bool.{Bool, true, false, cond, not, _&&_, _||_}
 use mathlib.Core.List.{List, [], _∷_}
-use Prim.Native.Nat.{ℕ, zero, suc, _+_, _-_, _*_, _/_, _^_, _≤_, _<_}
+use Prim.Native.Nat.{ℕ, zero, suc, _+_, _*_, _^_, _≤_, _<_}
 use native.Mathlib.Omega.{arith}
 use lib.Dec.{ltb, leb, eqb, lit<}
-use lib.ListN.{length, getD, set, replicate, getD-replicate}
+use lib.ListN.{getD, set, replicate, getD-replicate}
 use borrow.Author.Tests.{eqb-true, eq-eqb, ltb-true, ltb-false, lt-ltb, le-ltb, leb-true, le-leb}
 use Rattle.protocol.specs.Base.{_⇒_}
 use Rattle.protocol.specs.Types.{Reading, OptReading, NoReading, SomeReading, OptNumber, NoNumber, SomeNumber, Sender, HeadRecord, Setting, Input, Stepped, Frame, NoFrame, Start, Vote, Adjust}
 use Rattle.protocol.specs.Types.{Action, Look, StartSent, StartDelivered, StartConfirmed, VoteTurn, VoteDelivered, VoteClose, AdjustTurn, AdjustDelivered, AdjustClose}
 use Rattle.protocol.specs.Words.{headsFit}
 use Rattle.protocol.specs.Record.{isReading, isNumber, readingOr0, numberOr0, reading, noSender, keptOf, startOf, voteOf, fresh, readingInRange, serialInRange, senderInRange, senderIsNone, sentInRange, phaseInRange, marksInRange, recordInRange}
-use Rattle.protocol.specs.Median.{insert, inOrder, median}
+use Rattle.protocol.specs.Median.{median}
 use Rattle.protocol.specs.Step.{withVoteReading, withLast, accepted, vote, adjust, prepend, voteReadings, outranks, effect, isClosed, takeAction, actionsOf, actionOf, inputFits, step}
 use Rattle.protocol.specs.Run.{History, recordOf, isDeliveredBy, orElse, frameSent, carriedReading}
 use Rattle.protocol.proofs.Tests.{absurd-bool, cases, cond-elim, not-true, not-false, parts, and-both, or-left, or-right, or-cases, implied, all-below, below-all}
+use Rattle.protocol.proofs.Medians.{every-at, median-holds}
+pub use Rattle.protocol.proofs.Medians.{Every}
 use Rattle.protocol.proofs.Effects.{Kind, votes, adjusts, phaseOf, takenOf, Delivery, noDelivery, deliveryIn, serialOf, named, ignored, keptAfter, prepared, Sending, send, effect-split, Why, itself, told, Naming, Source, computed, passed-on, Allowed, sends-nothing, sends-start, sends-vote, sends-adjust, no-number, allowed, none-is-some, closed-last}
 use Rattle.protocol.proofs.Valid.{baseOf, Valid, start, more, heads-fit, record-at, record-other, by-head, fixed}
 
@@ -165,27 +167,8 @@ range-test {r} h =
 
 -- THE MEDIAN of numbers below a bound is below it
 
--- P holds of every element
-abbrev pub Every : {A : Type 0} → (A → Type 0) → List A → Type 0
-Every P [] = Unit {0}
-Every P (x ∷ l) = P x × Every P l
-
-every-at : {A : Type 0} (P : A → Type 0) (l : List A) (i : ℕ) {d : A} → P d → Every P l → P (getD l i d)
-every-at P [] i h e = h
-every-at P (x ∷ l) zero h e = e .0
-every-at P (x ∷ l) (suc i) h e = every-at P l i h (e .1)
-
-every-insert : (P : ℕ → Type 0) (x : ℕ) (l : List ℕ) → P x → Every P l → Every P (insert x l)
-every-insert P x [] h e = (h, e)
-every-insert P x (y ∷ l) h e = cond-elim (Every P) (leb x y) (λ _. (h, e)) (λ _. (e .0, every-insert P x l h (e .1)))
-
-every-in-order : (P : ℕ → Type 0) (l : List ℕ) → Every P l → Every P (inOrder l)
-every-in-order P [] e = e
-every-in-order P (x ∷ l) e = every-insert P x (inOrder l) (e .0) (every-in-order P l (e .1))
-
 pub median-in : (b : ℕ) (l : List ℕ) → 0 < b → Every (λ x. x < b) l → median l < b
-unfolding median
-median-in b l h e = every-at (λ x. x < b) (inOrder l) ((length l - 1) / 2) h (every-in-order (λ x. x < b) l e)
+median-in b l h e = median-holds (λ x. x < b) l (λ _. h) e
 
 every-prepend : (P : ℕ → Type 0) (x : OptReading) (l : List ℕ) → P (readingOr0 x) → Every P l → Every P (prepend x l)
 every-prepend P NoReading l h e = e
@@ -293,7 +276,7 @@ take-in-range {r} x sent a h b i =
     (λ o. effect-in-range a (last-in-range h b) i (closed-last r x a ∙ or-right (not sent) _ o)))
 
 -- what cause 6 lets pass
-input-in-range : (n : ℕ) (i : Input) → inputFits n i ≡ true → (i .reading < 2 ^ 28) × ActionInRange n (actionOf i)
+pub input-in-range : (n : ℕ) (i : Input) → inputFits n i ≡ true → (i .reading < 2 ^ 28) × ActionInRange n (actionOf i)
 unfolding inputFits actionOf
 input-in-range n i e =
     let sender = ltb-true (i .sender) n (search parts) in
@@ -303,7 +286,7 @@ input-in-range n i e =
     let plain : DeliveryInRange n noDelivery = omega arith in
     let or-none : readingOr0 (cond (i .none) NoReading (SomeReading (reading (i .carried)))) < 2 ^ 28 = cond-elim (λ (x : OptReading). readingOr0 x < 2 ^ 28) (i .none) (λ _. omega arith) (λ _. carried) in
     let each : Every (ActionInRange n) (actionsOf i) = (plain, (plain, (omega arith, (plain, (plain, (omega arith, (plain, (plain, (omega arith, (plain, tt)))))))))) in
-    (ltb-true (i .reading) (2 ^ 28) (search parts), every-at (ActionInRange n) (actionsOf i) (i .action) plain each)
+    (ltb-true (i .reading) (2 ^ 28) (search parts), every-at (ActionInRange n) (actionsOf i) (i .action) (λ _. plain) each)
 
 pub step-in-range : (r : HeadRecord) (i : Input) → recordInRange r ≡ true → recordInRange (step r i .after) ≡ true
 unfolding step

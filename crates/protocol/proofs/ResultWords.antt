@@ -145,4 +145,4 @@ agreement-in-words ws out h e f a = record {
         (words-say (settingAt ws) h (drop (wordsPerHead * settingAt ws .n) out) (accepted-sheet ws h e) q (c .is-head) (a .has-clock c))
 
 pub third-point-in-words : (ws out : List ℕ) → ThirdPointInWords ws out
-third-point-in-words ws out h e k f = agreement-in-words ws out h e f (third-point ws h e k)
+third-point-in-words ws out h e k f = agreement-in-words ws out h e f (third-point ws k h e)

@@ -12,7 +12,7 @@ use Rattle.protocol.specs.Base.{_⇒_, any, all, countBelow}
 use Rattle.protocol.specs.Types.{SomeNumber, Setting, Kept}
 use Rattle.protocol.specs.Words.{isCorrect}
 use Rattle.protocol.specs.Run.{Event, History, recordOf}
-use Rattle.protocol.specs.Premises.{takes, took, received, before, correctAll, correctTakes, premise1, premise2, premise3, premise4, premise5, premise6, premise7, premise8, premises, reached, votesHeard, adjustsHeard, quietBetween, firstBroken}
+use Rattle.protocol.specs.Premises.{takes, took, received, before, correctAll, correctTakes, premise1, premise2, premise3, premise4, premise5, premise6, premise7, premise8, premises, reached, votesHeard, adjustsHeard, noneBetween, firstBroken}
 use Rattle.protocol.specs.Claim.{CorrectHead}
 use Rattle.protocol.proofs.Tests.{absurd-bool, cases, and-left, and-right, and-both, or-first, implied, not-true, eqb-same, all-below, count-some}
 use Rattle.protocol.proofs.Moments.{Earlier, now, later, earlier-past, any-grows, any-map, First, first-of, before-stays, find-after, each-at}
@@ -174,16 +174,16 @@ module _ {g : Setting} {h : History} (r : Round g h) (k : Kind) where
       (reaches cp cq (ne-eqb q p (λ e. eqb-false p q d (sym e)))) (reaches cq cp d) (still-open r k now cp) (still-open r k now cq))
 
   -- premises 6 and 8: a frame that reaches a correct head after the first correct close finds it closed
-  quiet-premise : quietBetween g (delivery k) (closing k) h ≡ true
+  quiet-premise : noneBetween g k h ≡ true
   unfolding premise6 premise8
   quiet-premise = go k
     where
-      go : (k : Kind) → quietBetween g (delivery k) (closing k) h ≡ true
+      go : (k : Kind) → noneBetween g k h ≡ true
       go votes = r .p6
       go adjusts = r .p8
 
   finds-closed : {s : History} (e : Event) → Earlier (e ∷ s) h → any (isClose r k) s ≡ true → CorrectHead g (e .entry .head) → e .entry .action ≡ delivery k → isOver g k s (e .entry .head) ≡ true
-  unfolding quietBetween
+  unfolding noneBetween
   finds-closed {s} e x begun c a =
       closed-took g k (valid-earlier (earlier-past x) (r .sheet .valid)) (e .entry .head)
       ∙ cases (took (closing k) (e .entry .head) s) (λ u. u)

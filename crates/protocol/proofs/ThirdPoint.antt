@@ -162,4 +162,4 @@ unfolding judge
 kept-run ws h e k = rw e at k
 
 pub third-point : (ws : List ℕ) → ThirdPoint ws
-third-point ws h e k = agreement (kept-round (settingAt ws) h (accepted-sheet ws h e) (kept-run ws h e k))
+third-point ws k h e = agreement (kept-round (settingAt ws) h (accepted-sheet ws h e) (kept-run ws h e k))

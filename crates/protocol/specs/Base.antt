@@ -31,3 +31,8 @@ countBelow (suc n) p = cond (p n) (countBelow n p + 1) (countBelow n p)
 -- the larger less the smaller
 abbrev pub distance : ℕ → ℕ → ℕ
 distance a b = (a - b) + (b - a)
+
+-- the values of f at the k numbers from i on
+abbrev pub table : {A : Type 0} → (ℕ → A) → ℕ → ℕ → List A
+table f i zero = []
+table f i (suc k) = f i ∷ table f (suc i) k

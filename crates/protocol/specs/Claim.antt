@@ -5,7 +5,7 @@ use mathlib.Core.List.{List, _∷_, _++_}
 use Prim.Native.Nat.{ℕ, _+_, _-_, _*_, _≤_, _<_}
 use lib.ListN.{length, getD}
 use lib.IntN.{ℤ, pos, natAbs, subℕ, _+ℤ_, _-ℤ_}
-use Rattle.protocol.specs.Types.{HeadRecord, Setting, Kept}
+use Rattle.protocol.specs.Types.{HeadRecord, Setting, Filled, Judged, Kept, Report}
 use Rattle.protocol.specs.Words.{bits, timeOf, isCorrect, settingAt}
 use Rattle.protocol.specs.Record.{numberOr0, outcome, correction}
 use Rattle.protocol.specs.Run.{Event, History, recordOf, ran, runSheet}
@@ -80,12 +80,25 @@ pub record Agreement (g : Setting) (h : History) (ending : ℕ → Ending) : Typ
       → 1000000 * apart (shown d (ending p)) (shown e (ending q))
       ≤ 1000000 * (g .tightness + 2) + g .drift * (sinceStart h p (ending p) d + sinceStart h q (ending q) e)
 
+-- of the records at the end of an accepted sheet's entries
+abbrev pub AgreementOf : List ℕ → Type 0
+AgreementOf ws = (h : History) → runSheet ws ≡ ran h → Agreement (settingAt ws) h (λ q. endingOf (recordOf (settingAt ws) h q))
+
 -- the third point, of a sheet's words: "a single claim about a sheet's whole list of entries"
 abbrev pub ThirdPoint : List ℕ → Type 0
-ThirdPoint ws = (h : History) → runSheet ws ≡ ran h → judge ws ≡ Kept → Agreement (settingAt ws) h (λ q. endingOf (recordOf (settingAt ws) h q))
+ThirdPoint ws = judge ws ≡ Kept → AgreementOf ws
 
 -- "Result words: unless cause 5 turns the sheet back", the same of what the replay leaves in the buffer
 abbrev pub ThirdPointInWords : List ℕ → List ℕ → Type 0
 ThirdPointInWords ws out =
     (h : History) → runSheet ws ≡ ran h → judge ws ≡ Kept → wordsPerHead * settingAt ws .n ≤ length out
     → Agreement (settingAt ws) h (endingInWords (replay ws out .buffer))
+
+-- the third point of what the judge answers: of a sheet whose premises it says are kept
+abbrev pub Agrees : List ℕ → Judged → Type 0
+Agrees ws j = j ≡ Kept → AgreementOf ws
+
+-- and of the words that a replay left in the buffer, unless it was turned back
+abbrev pub AgreesInWords : List ℕ → Report → List ℕ → Type 0
+AgreesInWords ws r out =
+    r .judged ≡ Kept → r .replayed ≡ Filled → (h : History) → runSheet ws ≡ ran h → Agreement (settingAt ws) h (endingInWords out)

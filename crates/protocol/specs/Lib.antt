@@ -5,6 +5,7 @@ pub mod Words
 pub mod Record
 pub mod Median
 pub mod Step
+pub mod Row
 pub mod Causes
 pub mod Counter
 pub mod Run
@@ -12,4 +13,5 @@ pub mod Results
 pub mod Premises
 pub mod Claim
 pub mod Program
+pub mod Board
 pub mod Marked

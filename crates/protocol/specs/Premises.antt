@@ -7,8 +7,18 @@ use lib.Dec.{leb, eqb}
 use Rattle.protocol.specs.Base.{_⇒_, any, all, allBelow, countBelow, distance}
 use Rattle.protocol.specs.Types.{Setting, Entry, Judged, Kept, Broken, Unjudged}
 use Rattle.protocol.specs.Words.{isCorrect, settingAt}
+use Rattle.protocol.specs.Record.{Kind, votes, adjusts}
 use Rattle.protocol.specs.Causes.{causeNumber}
 use Rattle.protocol.specs.Run.{Event, History, recordOf, Run, stopped, ran, runSheet}
+
+-- the action that delivers a frame of a phase, and the one that closes the phase
+abbrev pub delivery : Kind → ℕ
+delivery votes = 5
+delivery adjusts = 8
+
+abbrev pub closing : Kind → ℕ
+closing votes = 6
+closing adjusts = 9
 
 -- head q took the action; head q was delivered by it the frame of sender p and serial k
 abbrev pub takes : ℕ → ℕ → Event → Bool
@@ -52,6 +62,10 @@ module _ (g : Setting) where
   abbrev pub correctTakes : ℕ → Event → Bool
   correctTakes a e = isCorrect g (e .entry .head) && eqb (e .entry .action) a
 
+  -- a correct close of a phase
+  abbrev pub correctCloses : Kind → Event → Bool
+  correctCloses k = correctTakes (closing k)
+
   -- "1. At least n − f heads are correct"
   unfoldable pub premise1 : Bool
   premise1 = leb (g .n - g .f) (countBelow (g .n) (isCorrect g))
@@ -91,16 +105,16 @@ module _ (g : Setting) where
       && ((took 1 p s ⇒ correctAll (λ q. received 2 p 0 q s)) && reached 5 (recordOf g s p .vote .sent) s p))
 
   unfoldable pub premise5 : History → Bool
-  premise5 h = any (correctTakes 6) h ⇒ votesHeard (before (correctTakes 6) h)
+  premise5 h = any (correctCloses votes) h ⇒ votesHeard (before (correctCloses votes) h)
 
   -- "6. From the first to the last correct vote close no vote reaches a correct head": when one closes, none has been
   -- delivered since the first close
-  unfoldable pub quietBetween : ℕ → ℕ → History → Bool
-  quietBetween delivery close h =
-      each (λ e s. correctTakes close e ⇒ each (λ d past. correctTakes delivery d ⇒ not (any (correctTakes close) past)) s) h
+  unfoldable pub noneBetween : Kind → History → Bool
+  noneBetween k h =
+      each (λ e s. correctCloses k e ⇒ each (λ d past. correctTakes (delivery k) d ⇒ not (any (correctCloses k) past)) s) h
 
   unfoldable pub premise6 : History → Bool
-  premise6 = quietBetween 5 6
+  premise6 = noneBetween votes
 
   -- "7. Before the first correct adjust close, every correct head took 7, and each adjust sent by a correct head by then
   -- reached, by then, all other correct heads"
@@ -108,11 +122,11 @@ module _ (g : Setting) where
   adjustsHeard s = correctAll (λ p. took 7 p s && reached 8 (recordOf g s p .adjust .sent) s p)
 
   unfoldable pub premise7 : History → Bool
-  premise7 h = any (correctTakes 9) h ⇒ adjustsHeard (before (correctTakes 9) h)
+  premise7 h = any (correctCloses adjusts) h ⇒ adjustsHeard (before (correctCloses adjusts) h)
 
   -- "8. As 6, for adjusts and adjust closes"
   unfoldable pub premise8 : History → Bool
-  premise8 = quietBetween 8 9
+  premise8 = noneBetween adjusts
 
   abbrev pub premises : History → List Bool
   premises h = premise1 ∷ premise2 h ∷ premise3 h ∷ premise4 h ∷ premise5 h ∷ premise6 h ∷ premise7 h ∷ premise8 h ∷ []

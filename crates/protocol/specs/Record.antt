@@ -41,6 +41,14 @@ startOf r p = keptOf r p .start
 abbrev pub voteOf : HeadRecord → ℕ → OptReading
 voteOf r p = keptOf r p .vote
 
+-- the two phases: for votes the choice is the candidate, for adjusts the adjuster
+pub data Kind : Type 0 where
+  votes adjusts : Kind
+
+abbrev pub phaseOf : Kind → HeadRecord → Phase
+phaseOf votes r = r .vote
+phaseOf adjusts r = r .adjust
+
 -- "Before the first entry every head's record is fresh: n and f from the first word, its own number, last reading 0,
 -- no marks, nothing else kept or sent"
 abbrev pub freshPhase : Phase
@@ -79,6 +87,15 @@ correction r = subℕ (r .adjustment .0) (readingOr0 (chosenStart r))
 
 unfoldable pub correctedClock : HeadRecord → Reading → ℤ
 correctedClock r x = pos (x .0) +ℤ correction r
+
+-- "six marks", and whether there is a candidate, as one number below 128: all by which an action is closed, but for its sender
+abbrev pub markNumber : Bool → ℕ → ℕ
+markNumber b weight = cond b weight 0
+
+unfoldable pub marksNumber : HeadRecord → ℕ
+marksNumber r =
+    markNumber (r .started) 1 + markNumber (r .confirmed) 2 + markNumber (r .vote .turn) 4 + markNumber (r .vote .closed) 8
+    + markNumber (r .adjust .turn) 16 + markNumber (r .adjust .closed) 32 + markNumber (isNumber (r .vote .choice)) 64
 
 -- "Record ranges" (cause 10). Readings below 2²⁸, serials at most 15; "what is kept by sender .. may each be none"
 abbrev pub readingInRange : OptReading → Bool

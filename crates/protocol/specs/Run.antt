@@ -1,7 +1,7 @@
 -- Document 01, "Causes to turn a sheet back" and "The third point's words": a run, entry by entry.
 use mathlib.Core.Bool.{Bool, true, false, cond, not, _&&_, _||_}
 use mathlib.Core.List.{List, [], _∷_}
-use Prim.Native.Nat.{ℕ, zero, suc}
+use Prim.Native.Nat.{ℕ, zero, suc, min}
 use lib.Dec.{ltb, eqb}
 use Rattle.protocol.specs.Types.{OptReading, NoReading, SomeReading, HeadRecord, Setting, Entry, Input, Cause, BadEntry, TimeFell, Verdict, Accepted, Refused, Stepped, Frame, NoFrame, Start, Vote, Adjust}
 use Rattle.protocol.specs.Words.{hasSender, settingAt, entryCount, placeOf, entryAt, entryFitsAt}
@@ -114,3 +114,7 @@ afterVerdict (Refused c) r = stopped c 0
 
 unfoldable pub runSheet : List ℕ → Run
 runSheet ws = afterVerdict (sheetVerdict ws) (runOf ws (entryCount ws))
+
+-- the run of a sheet's first k entries, or of all of them where it has fewer
+unfoldable pub runFirst : List ℕ → ℕ → Run
+runFirst ws k = afterVerdict (sheetVerdict ws) (runOf ws (min k (entryCount ws)))

@@ -1,7 +1,7 @@
 -- Document 01, "Actions and steps of one head h": the ten actions, when each is closed, what each does, and the step.
 use mathlib.Core.Bool.{Bool, true, false, cond, not, _&&_, _||_}
 use mathlib.Core.List.{List, [], _∷_}
-use Prim.Native.Nat.{ℕ, zero, suc, _+_}
+use Prim.Native.Nat.{ℕ, zero, suc, _+_, _/_, _%_}
 use lib.Dec.{ltb, leb, eqb}
 use lib.ListN.{length, getD, set}
 use Rattle.protocol.specs.Base.{countBelow}
@@ -136,25 +136,63 @@ effect r (AdjustDelivered p k a x) = delivered (r .adjust) (keptOf r p .adjusted
 -- "9 adjust close"
 effect r AdjustClose = silent (withAdjust r (close (r .adjust)) (r .adjustment))
 
--- when an action is closed (cause 9)
-unfoldable pub isClosed : HeadRecord → Action → Bool
-isClosed r Look = false
+-- an action's number
+abbrev pub number : Action → ℕ
+number Look = 0
+number StartSent = 1
+number (StartDelivered p) = 2
+number StartConfirmed = 3
+number VoteTurn = 4
+number (VoteDelivered p k c x) = 5
+number VoteClose = 6
+number AdjustTurn = 7
+number (AdjustDelivered p k c x) = 8
+number AdjustClose = 9
+
+-- when an action is closed (cause 9): 5 and 8 "Closed if sender is h"
+abbrev pub isOwnFrame : HeadRecord → Action → Bool
+isOwnFrame r Look = false
+isOwnFrame r StartSent = false
+isOwnFrame r (StartDelivered p) = false
+isOwnFrame r StartConfirmed = false
+isOwnFrame r VoteTurn = false
+isOwnFrame r (VoteDelivered p k c x) = eqb p (r .own)
+isOwnFrame r VoteClose = false
+isOwnFrame r AdjustTurn = false
+isOwnFrame r (AdjustDelivered p k a x) = eqb p (r .own)
+isOwnFrame r AdjustClose = false
+
+-- the others by the head's marks
+abbrev pub isClosedByMarks : HeadRecord → Action → Bool
+isClosedByMarks r Look = false
 -- "Closed if already sent, if h has a candidate, or after its vote close"
-isClosed r StartSent = r .started || (isNumber (r .vote .choice) || r .vote .closed)
-isClosed r (StartDelivered p) = false
+isClosedByMarks r StartSent = r .started || (isNumber (r .vote .choice) || r .vote .closed)
+isClosedByMarks r (StartDelivered p) = false
 -- "Closed if not sent or already confirmed"
-isClosed r StartConfirmed = not (r .started) || r .confirmed
+isClosedByMarks r StartConfirmed = not (r .started) || r .confirmed
 -- "Closed if not confirmed or already taken"
-isClosed r VoteTurn = not (r .confirmed) || r .vote .turn
--- "Closed if sender is h"
-isClosed r (VoteDelivered p k c x) = eqb p (r .own)
+isClosedByMarks r VoteTurn = not (r .confirmed) || r .vote .turn
+isClosedByMarks r (VoteDelivered p k c x) = false
 -- "Closed if already taken"
-isClosed r VoteClose = r .vote .closed
+isClosedByMarks r VoteClose = r .vote .closed
 -- "Closed before the vote close, if already taken, or after the adjust close"
-isClosed r AdjustTurn = not (r .vote .closed) || (r .adjust .turn || r .adjust .closed)
-isClosed r (AdjustDelivered p k a x) = eqb p (r .own)
+isClosedByMarks r AdjustTurn = not (r .vote .closed) || (r .adjust .turn || r .adjust .closed)
+isClosedByMarks r (AdjustDelivered p k a x) = false
 -- "Closed before the vote close or if already taken"
-isClosed r AdjustClose = not (r .vote .closed) || r .adjust .closed
+isClosedByMarks r AdjustClose = not (r .vote .closed) || r .adjust .closed
+
+unfoldable pub isClosed : HeadRecord → Action → Bool
+isClosed r a = isOwnFrame r a || isClosedByMarks r a
+
+-- the same of an action's number and the number of the marks
+abbrev pub hasMark : ℕ → ℕ → Bool
+hasMark marks weight = eqb (marks / weight % 2) 1
+
+unfoldable pub closedBy : ℕ → ℕ → Bool
+closedBy a m =
+    getD (false ∷ (hasMark m 1 || (hasMark m 64 || hasMark m 8)) ∷ false ∷ (not (hasMark m 1) || hasMark m 2)
+    ∷ (not (hasMark m 2) || hasMark m 4) ∷ false ∷ hasMark m 8 ∷ (not (hasMark m 8) || (hasMark m 16 || hasMark m 32)) ∷ false
+    ∷ (not (hasMark m 8) || hasMark m 32) ∷ []) a false
 
 -- causes 8 and 9, then the effect: "Every accepted action makes its reading the last reading".
 -- sent: the frame that is delivered, if any, was sent by its sender; one head cannot know, a sheet does

@@ -12,6 +12,7 @@ pub use Rattle.protocol.specs.declared.Action.{Action}
 pub use Rattle.protocol.specs.declared.Action.the-variants.{Look, StartSent, StartDelivered, StartConfirmed, VoteTurn, VoteDelivered, VoteClose, AdjustTurn, AdjustDelivered, AdjustClose}
 pub use Rattle.protocol.specs.declared.Frame.{Frame}
 pub use Rattle.protocol.specs.declared.Frame.the-variants.{NoFrame, Start, Vote, Adjust}
+pub use Rattle.protocol.specs.declared.Sent.{Sent}
 pub use Rattle.protocol.specs.declared.Cause.{Cause}
 pub use Rattle.protocol.specs.declared.Cause.the-variants.{TooManyWords, BadLength, BadFirstWord, BadSecondWord, ShortBuffer, BadEntry, TimeFell, ReadingFell, ActionClosed, BadRecord, CounterTooFar}
 pub use Rattle.protocol.specs.declared.Verdict.{Verdict}
@@ -24,5 +25,6 @@ pub use Rattle.protocol.specs.declared.Replayed.{Replayed}
 pub use Rattle.protocol.specs.declared.Replayed.the-variants.{Filled, TurnedBack}
 pub use Rattle.protocol.specs.declared.Judged.{Judged}
 pub use Rattle.protocol.specs.declared.Judged.the-variants.{Kept, Broken, Unjudged}
+pub use Rattle.protocol.specs.declared.Report.{Report}
 pub use Rattle.protocol.specs.declared.Counted.{Counted}
 pub use Rattle.protocol.specs.declared.Counted.the-variants.{Counts, OutOfRange}

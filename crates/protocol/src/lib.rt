@@ -72,6 +72,15 @@ pub enum Frame {
     Adjust(u8, u8, Reading),
 }
 
+// A frame in numbers, as a head's row has them. kind is the action that delivers it, 0 for no frame; carried is a vote's
+// reading, one more than itself, 0 for the mark "none", or an adjust's adjustment.
+pub struct Sent {
+    pub kind: u32,
+    pub serial: u32,
+    pub choice: u32,
+    pub carried: u32,
+}
+
 // The causes to turn back a sheet, an action or a counter, in the order of their numbers, 1 to 11.
 pub enum Cause {
     TooManyWords,
@@ -142,6 +151,12 @@ pub enum Judged {
     Kept,
     Broken(u8),
     Unjudged(Cause, usize),
+}
+
+// A replay's answer and the judge's, of the same sheet.
+pub struct Report {
+    pub replayed: Replayed,
+    pub judged: Judged,
 }
 
 // The reading that a board's counter gives.

@@ -1,22 +1,24 @@
--- What the writing of result words asks of the records that it reads.
-use mathlib.Core.List.{List}
-use Prim.Native.Nat.{ℕ, _^_, _<_}
-use lib.ListN.{getD}
+-- The result words that are made of the heads' rows.
+use mathlib.Core.Path.{_≡_}
+use mathlib.Core.Bool.{true}
+use mathlib.Core.List.{List, _++_}
+use Prim.Native.Nat.{ℕ, _*_, _<_}
+use lib.ListN.{length, drop}
 use Rattle.protocol.specs.declared.HeadRecord.{HeadRecord}
-use Rattle.protocol.specs.Record.{numberOr0, readingOr0, chosenStart}
-use Rattle.sheet.specs.Bench.{noRecord}
+use Rattle.protocol.specs.Base.{table}
+use Rattle.protocol.specs.Record.{recordInRange}
+use Rattle.protocol.specs.Row.{rowOf}
+use Rattle.protocol.specs.Results.{outcomeWord, adjustmentWord, startWord, wordsPerHead, wordsFrom}
+use Rattle.results.specs.declared.HeadWords.{HeadWords}
 
--- candidate and adjuster fit into four bits, adjustment and start reading into 28
-pub record Writable (r : HeadRecord) : Type 0 where
-  pub candidate : numberOr0 (r .vote .choice) < 16
-  pub adjuster : numberOr0 (r .adjust .choice) < 16
-  pub adjustment : r .adjustment .0 < 2 ^ 28
-  pub start : readingOr0 (chosenStart r) < 2 ^ 28
+abbrev pub InRange : HeadRecord → Type 0
+InRange r = (recordInRange r ≡ true) × (length (r .senders) ≡ 16)
 
--- the record of head q in an array of records
-abbrev pub recordAt : List HeadRecord → ℕ → HeadRecord
-recordAt l q = getD l q noRecord
+-- head q's three words, of the record in its ranges that the row is of
+abbrev pub AreWords : ℕ → List ℕ → HeadWords → Type 0
+AreWords q row w = (r : HeadRecord) → row ≡ rowOf r → InRange r → (w .outcome ≡ outcomeWord q r) × (w .adjustment ≡ adjustmentWord r) × (w .start ≡ startWord r)
 
--- of the first n heads
-abbrev pub AllWritable : ℕ → List HeadRecord → Type 0
-AllWritable n l = (q : ℕ) → q < n → Writable (recordAt l q)
+-- the words of n heads from word 0 on, later words kept
+abbrev pub Writes : ℕ → List (List ℕ) → List ℕ → List ℕ → Type 0
+Writes n heads before after =
+    (r : ℕ → HeadRecord) → heads ≡ table (λ q. rowOf (r q)) 0 16 → ((q : ℕ) → q < n → InRange (r q)) → after ≡ wordsFrom r 0 n ++ drop (wordsPerHead * n) before

@@ -1,6 +1,4 @@
 -- Laws that the proofs of this crate's functions cite.
-pub mod Tables
-pub mod Rows
-pub mod Runs
+pub mod Fresh
 pub mod Loop
-pub mod Sheets
+pub mod Ready

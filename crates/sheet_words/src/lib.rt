@@ -1,14 +1,25 @@
-// The tests of a sheet's words: causes 1 to 4 of the whole sheet, cause 6 of an entry.
+// A sheet's words: causes 1 to 4 of the whole sheet, its setting and its entries, and cause 6 of an entry.
 use protocol::Cause;
+use protocol::Entry;
+use protocol::Setting;
 use protocol::Verdict;
 use words::entry_of;
 use words::first_word_fits;
 use words::kind;
 use words::second_word_fits;
+use words::setting_of;
 use words::zero_where_unused;
 ghost use mathlib.Core.Path.{_≡_};
+ghost use Prim.Native.Nat.{_+_, _*_, _≤_, _<_};
+ghost use lib.ListN.{length};
 ghost use Rattle.protocol.specs.Causes.{sheetVerdict};
-ghost use Rattle.protocol.specs.Words.{entryFits};
+ghost use Rattle.protocol.specs.Words.{settingAt, entryCount, entryAt, entryFits, entryFitsAt};
+
+// An entry, and whether its words fit (else cause 6).
+pub struct Read {
+    pub entry: Entry,
+    pub fits: bool,
+}
 
 // "Sheet order": causes 1 to 4.
 pub fn sheet_verdict(sheet: &[u32]) -> Verdict
@@ -47,4 +58,34 @@ pub fn entry_fits(n: u8, t: u32, a: u32, w: u32) -> bool
                         && (e.head < n
                             && (e.sender < n
                                 && zero_where_unused(e.action, e.sender, e.serial)))))))
+}
+
+// The setting of an accepted sheet.
+pub fn setting_at(sheet: &[u32]) -> Setting
+    requires { ⌜ 2 ≤ length (now sheet) ⌝ }
+    ensures { λ g. ⌜ g ≡ settingAt (now (sheet .entry)) ⌝ }
+{
+    setting_of(sheet[0], sheet[1])
+}
+
+// The number of entries of an accepted sheet.
+pub fn entry_count(sheet: &[u32]) -> usize
+    requires { ⌜ 2 ≤ length (now sheet) ⌝ }
+    ensures { λ k. ⌜ k ≡ entryCount (now (sheet .entry)) ⌝ }
+{
+    (sheet.len() - 2) / 3
+}
+
+// Entry i, for a bench of n heads.
+pub fn read_entry(sheet: &[u32], n: u8, i: usize) -> Read
+    requires { ⌜ (2 + 3 * i + 2 < length (now sheet)) × (length (now sheet) ≤ 12290) × (n ≡ settingAt (now sheet) .n) ⌝ }
+    ensures { λ r. ⌜ (r .entry ≡ entryAt (now (sheet .entry)) i) × (r .fits ≡ entryFitsAt (now (sheet .entry)) i) ⌝ }
+{
+    let at = 2 + 3 * i;
+    let t = sheet[at];
+    let a = sheet[at + 1];
+    let w = sheet[at + 2];
+    let entry = entry_of(t, a, w);
+    let fits = entry_fits(n, t, a, w);
+    Read { entry, fits }
 }

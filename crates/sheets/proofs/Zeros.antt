@@ -15,8 +15,8 @@ use Rattle.protocol.specs.declared.Judged.the-variants.{Kept}
 use Rattle.protocol.specs.Causes.{causeNumber}
 use Rattle.protocol.specs.Run.{Run, stopped, ran, runSheet}
 use Rattle.protocol.specs.Premises.{premises, firstBroken, judgeRun, judge}
-use Rattle.judge.specs.declared.Report.{Report}
-use Rattle.judge.specs.Claims.{AgreesInWords}
+use Rattle.protocol.specs.declared.Report.{Report}
+use Rattle.protocol.specs.Claim.{AgreesInWords}
 use Rattle.sheets.specs.Numbers.{AgreesInNumbers, answerNumbers, judgedNumber}
 
 pub cause-range : (c : Cause) → (0 < causeNumber c) × (causeNumber c < 12)

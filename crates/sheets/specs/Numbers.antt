@@ -10,7 +10,7 @@ use Rattle.protocol.specs.declared.Judged.the-variants.{Kept, Broken, Unjudged}
 use Rattle.protocol.specs.Causes.{causeNumber}
 use Rattle.protocol.specs.Results.{replayedNumbers}
 use Rattle.protocol.specs.Premises.{judgedNumbers}
-use Rattle.judge.specs.Claims.{AgreesInWords}
+use Rattle.protocol.specs.Claim.{AgreesInWords}
 
 -- the replay's cause and place, the judge's, and the first broken premise; each 0 where there is none
 abbrev pub answerNumbers : Replayed → Judged → List ℕ

@@ -7,9 +7,15 @@ use libc::STDIN_FILENO;
 use libc::STDOUT_FILENO;
 use protocol::Cause;
 use protocol::OptNumber;
+use protocol::Verdict;
+use sheet_words::sheet_verdict;
 use tracing::Line;
 use tracing::Traced;
-use tracing::trace_entry;
+use tracing::first_heads;
+use tracing::trace_next;
+ghost use mathlib.Core.Path.{_≡_};
+ghost use Rattle.protocol.specs.declared.Verdict.the-variants.{Accepted};
+ghost use Rattle.protocol.specs.Causes.{sheetVerdict};
 
 fn print(text: &[u8]) {
     io::write_all(STDOUT_FILENO, text);
@@ -39,8 +45,8 @@ fn print_adjustment(adjuster: OptNumber, x: u32) {
     }
 }
 
-fn print_line(k: u32, l: Line) {
-    print_field(k as u64);
+fn print_line(i: usize, l: Line) {
+    print_field(i as u64);
     print_field(l.time.0 as u64);
     print_field(l.head as u64);
     print_field(l.action as u64);
@@ -60,27 +66,37 @@ fn print_refused(c: Cause, place: usize) {
     print(b"\n");
 }
 
-// Prints entry k of a sheet, and answers whether to go on.
-fn print_entry(sheet: &[u32], k: u32) -> bool {
-    let t = trace_entry(sheet, k);
-    match t {
-        Traced::After(l) => {
-            print_line(k, l);
-            true
+// Prints the entries of an accepted sheet, up to one that is refused.
+fn print_entries(sheet: &[u32])
+    requires { ⌜ sheetVerdict (now sheet) ≡ Accepted ⌝ }
+{
+    let mut heads = first_heads(sheet);
+    let mut choices = [0u8; 512];
+    let mut carried = [0u32; 512];
+    let mut time: u32 = 0;
+    let mut i: usize = 0;
+    loop {
+        let t = trace_next(sheet, i, time, &mut heads, &mut choices, &mut carried);
+        match t {
+            Traced::After(l) => {
+                print_line(i, l);
+                time = l.time.0;
+                i += 1;
+            }
+            Traced::RefusedAt(c, place) => {
+                print_refused(c, place);
+                return;
+            }
+            Traced::Ended => return,
         }
-        Traced::RefusedAt(c, place) => {
-            print_refused(c, place);
-            false
-        }
-        Traced::Ended => false,
     }
 }
 
-// A sheet has at most 4,096 entries.
-fn print_entries(sheet: &[u32]) {
-    let mut k: u32 = 0;
-    while k < 4097 && print_entry(sheet, k) {
-        k += 1;
+fn print_sheet(sheet: &[u32]) {
+    let v = sheet_verdict(sheet);
+    match v {
+        Verdict::Refused(c) => print_refused(c, 0),
+        Verdict::Accepted => print_entries(sheet),
     }
 }
 
@@ -93,7 +109,7 @@ fn trace_bytes(bytes: &[u8]) {
     }
     if n % 4 == 0 {
         let words = words_of(bytes);
-        print_entries(&words[..n / 4]);
+        print_sheet(&words[..n / 4]);
     } else {
         print_refused(Cause::BadLength, 0);
     }

@@ -1,1 +1,3 @@
-pub mod Answers
+-- Laws that the proofs of this crate's functions cite.
+pub mod Lines
+pub mod Entries

@@ -7,8 +7,7 @@ use Rattle.protocol.specs.declared.HeadRecord.{HeadRecord}
 use Rattle.protocol.specs.declared.Entry.{Entry}
 use Rattle.protocol.specs.Words.{settingAt, entryCount, entryAt}
 use Rattle.protocol.specs.Record.{outcome}
-use Rattle.protocol.specs.Run.{recordOf, Run, stopped, ran}
-use Rattle.sheet.specs.Bench.{runFirst}
+use Rattle.protocol.specs.Run.{recordOf, Run, stopped, ran, runFirst}
 use Rattle.tracing.specs.declared.Line.{Line}
 use Rattle.tracing.specs.declared.Traced.{Traced}
 use Rattle.tracing.specs.declared.Traced.the-variants.{After, RefusedAt, Ended}

@@ -1,16 +1,25 @@
 // What the program trace shows of an entry: the entry, and where its head stands after it.
-ghost use mathlib.Core.Path.{_≡_};
-ghost use Rattle.tracing.specs.Trace.{lineOf, traced};
-use head::outcome;
+use head_result::result_of;
+use head_row::fresh_row;
+use places::seat;
 use protocol::Cause;
 use protocol::Entry;
-use protocol::HeadRecord;
 use protocol::OptNumber;
 use protocol::Reading;
 use protocol::RealTime;
 use protocol::Verdict;
-use sheet::run;
-use words::entry_of;
+use sheet::number_heads;
+use sheet_entry::entry_verdict;
+use sheet_entry::take_entry;
+use sheet_words::entry_count;
+use sheet_words::read_entry;
+use sheet_words::setting_at;
+ghost use mathlib.Core.Path.{_≡_};
+ghost use lib.ListN.{replicate};
+ghost use Rattle.protocol.specs.declared.Verdict.the-variants.{Accepted};
+ghost use Rattle.protocol.specs.Causes.{sheetVerdict};
+ghost use Rattle.tracing.specs.Trace.{traced};
+ghost use Rattle.tracing.specs.Follows.{Follows, GoesOn, IsNumber, IsLine};
 
 // An entry, with its head's candidate, adjuster, adjustment and outcome after it.
 pub struct Line {
@@ -30,15 +39,24 @@ pub enum Traced {
     Ended,
 }
 
-fn line_of(e: Entry, r: HeadRecord) -> Line
-    ensures { λ l. ⌜ l ≡ lineOf e r ⌝ }
+fn number_in(w: u32) -> OptNumber
+    ensures { λ k. ⌜ IsNumber w k ⌝ }
 {
-    let vote = r.vote;
-    let adjust = r.adjust;
+    if w == 0 {
+        OptNumber::NoNumber
+    } else {
+        OptNumber::SomeNumber(((w - 1) % 256) as u8)
+    }
+}
+
+fn line_of(e: Entry, row: &[u32; 80]) -> Line
+    ensures { λ l. ⌜ IsLine e (now (row .entry)) l ⌝ }
+{
     let time = e.time;
-    let candidate = vote.choice;
-    let adjuster = adjust.choice;
-    let adjustment = r.adjustment;
+    let candidate = number_in(row[2]);
+    let adjuster = number_in(row[4]);
+    let adjustment = Reading(row[6]);
+    let x = result_of(row);
     Line {
         time,
         head: e.head,
@@ -46,29 +64,48 @@ fn line_of(e: Entry, r: HeadRecord) -> Line
         candidate,
         adjuster,
         adjustment,
-        outcome: outcome(r),
+        outcome: (x[0] % 256) as u8,
     }
 }
 
-// Entry k of a sheet and its head after it, or the refusal of an entry up to k.
-pub fn trace_entry(sheet: &[u32], k: u32) -> Traced
-    ensures { λ t. ⌜ t ≡ traced (now (sheet .entry)) k ⌝ }
+// The rows before the first entry of an accepted sheet; no frame is sent yet, and the real time is 0.
+pub fn first_heads(sheet: &[u32]) -> [[u32; 80]; 16]
+    requires { ⌜ sheetVerdict (now sheet) ≡ Accepted ⌝ }
+    ensures { λ heads. ⌜ Follows (now (sheet .entry)) 0 heads (replicate 512 0) (replicate 512 0) 0 ⌝ }
 {
-    let i = k as usize;
-    let r = run(sheet, i + 1);
-    let v = r.verdict;
-    match v {
-        Verdict::Refused(c) => Traced::RefusedAt(c, r.place),
-        Verdict::Accepted => {
-            if i < (sheet.len() - 2) / 3 {
-                let at = 2 + 3 * i;
-                let e = entry_of(sheet[at], sheet[at + 1], sheet[at + 2]);
-                let q = (e.head % 16) as usize;
-                let records = r.records;
-                Traced::After(line_of(e, records[q]))
-            } else {
-                Traced::Ended
+    let g = setting_at(sheet);
+    let fresh = fresh_row(g.n as u32, g.f as u32, 0);
+    let mut heads = [fresh; 16];
+    number_heads(&mut heads);
+    heads
+}
+
+// Entry i of a sheet and its head after it, or its refusal, from what the entries before it left.
+pub fn trace_next(
+    sheet: &[u32],
+    i: usize,
+    time: u32,
+    heads: &mut [[u32; 80]; 16],
+    choices: &mut [u8; 512],
+    carried: &mut [u32; 512],
+) -> Traced
+    requires { ⌜ Follows (now sheet) i (now heads) (now choices) (now carried) time ⌝ }
+    ensures { λ t. ⌜ (t ≡ traced (now (sheet .entry)) i) × GoesOn (now (sheet .entry)) i t (now (heads .exit)) (now (choices .exit)) (now (carried .exit)) ⌝ }
+{
+    if i < entry_count(sheet) {
+        let g = setting_at(sheet);
+        let r = read_entry(sheet, g.n, i);
+        let e = r.entry;
+        let v = entry_verdict(e, r.fits, time, heads);
+        match v {
+            Verdict::Refused(c) => Traced::RefusedAt(c, 2 + 3 * i),
+            Verdict::Accepted => {
+                take_entry(e, heads, choices, carried);
+                let h = seat(e.head);
+                Traced::After(line_of(e, &heads[h]))
             }
         }
+    } else {
+        Traced::Ended
     }
 }

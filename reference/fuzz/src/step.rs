@@ -90,7 +90,7 @@ fn run(data: &[u8]) -> Result<(), String> {
         if chunk[0] & 0x40 != 0 {
             both = whole.take().unwrap_or(both);
         }
-        let last = both.head[3];
+        let last = both.head[0];
         crate::count(both.act(&asked(chunk, n, last))?);
     }
     Ok(())

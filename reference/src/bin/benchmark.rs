@@ -10,25 +10,26 @@ use reference::sheets::proved;
 use std::hint::black_box;
 use std::time::Instant;
 
-const HEADS: u32 = 16;
 const ENTRIES: usize = 4096;
 const RESULT_WORDS: usize = 48;
 const RUNS: usize = 301;
 /// The length of one run: so short that other programs seldom interrupt it.
 const RUN_NANOSECONDS: u128 = 1_000_000;
 
-/// A sheet of sixteen correct heads, written entry by entry.
+/// A sheet of correct heads, written entry by entry.
 struct Writer {
+    heads: u32,
     words: Vec<u32>,
     time: u32,
 }
 
 impl Writer {
-    fn new() -> Writer {
-        // f is 7, the drift 100 parts per million, the tightness 10,000 microseconds.
-        let first = 1 << 28 | HEADS << 20 | 7 << 16 | 0xFFFF;
+    fn new(heads: u32) -> Writer {
+        // f as large as it may be, the drift 100 parts per million, the tightness 10,000 microseconds.
+        let first = 1 << 28 | heads << 20 | (heads - 1) / 2 << 16 | ((1 << heads) - 1);
         let second = 2 << 28 | 100 << 16 | 10_000;
         Writer {
+            heads,
             words: vec![first, second],
             time: 0,
         }
@@ -45,13 +46,13 @@ impl Writer {
     }
 
     fn each_head(&mut self, action: u32) {
-        (0..HEADS).for_each(|head| self.put(action, head, 0, 0));
+        (0..self.heads).for_each(|head| self.put(action, head, 0, 0));
     }
 
     /// The frames of the senders from the first on, each to all other heads.
     fn deliver(&mut self, action: u32, first: u32, serial: u32) {
-        for sender in first..HEADS {
-            for head in (0..HEADS).filter(|&head| head != sender) {
+        for sender in first..self.heads {
+            for head in (0..self.heads).filter(|&head| head != sender) {
                 self.put(action, head, sender, serial);
             }
         }
@@ -60,26 +61,30 @@ impl Writer {
     /// Looks and repeated deliveries in turn, or looks alone (action 0).
     fn fill(&mut self, action: u32, entries: usize) {
         for i in 0..entries as u32 {
-            let head = i / 2 % HEADS;
+            let head = i / 2 % self.heads;
             if i % 2 == 0 || action == 0 {
                 self.put(0, head, 0, 0);
             } else {
-                self.put(action, head, (head + 1) % HEADS, 0);
+                self.put(action, head, (head + 1) % self.heads, 0);
             }
         }
     }
 }
 
-/// One whole round that keeps all premises, filled up to 4,096 entries. Each
-/// start is delivered so often to each head.
-fn round(starts: u32, votes: u32, adjusts: u32) -> Vec<u32> {
-    let fixed = 7 * HEADS + starts * HEADS * HEADS + 2 * (HEADS + HEADS - 1) * (HEADS - 1);
-    let filled = ENTRIES - fixed as usize;
-    let mut sheet = Writer::new();
+/// The entries of one whole round in which each start is delivered so often to
+/// each head.
+fn entries(heads: u32, starts: u32) -> usize {
+    (7 * heads + starts * heads * heads + 2 * (heads + heads - 1) * (heads - 1)) as usize
+}
+
+/// One whole round that keeps all premises, with so many entries in all.
+fn round(heads: u32, total: usize, starts: u32, votes: u32, adjusts: u32) -> Vec<u32> {
+    let filled = total - entries(heads, starts);
+    let mut sheet = Writer::new(heads);
     sheet.each_head(1);
     for _ in 0..starts {
-        for sender in 0..HEADS {
-            (0..HEADS).for_each(|head| sheet.put(2, head, sender, 0));
+        for sender in 0..heads {
+            (0..heads).for_each(|head| sheet.put(2, head, sender, 0));
         }
     }
     sheet.each_head(3);
@@ -98,12 +103,14 @@ fn round(starts: u32, votes: u32, adjusts: u32) -> Vec<u32> {
     sheet.words
 }
 
-fn sheets() -> [(&'static str, Vec<u32>); 3] {
+fn sheets() -> [(&'static str, Vec<u32>); 5] {
     let m1 = read_words(include_bytes!("../../../samples/m1.sheet")).expect("M1 has whole words");
     [
         ("m1", m1),
-        ("full", round(1, 5, 8)),
-        ("starts", round(11, 0, 0)),
+        ("three", round(3, entries(3, 1), 1, 0, 0)),
+        ("five", round(5, entries(5, 1), 1, 0, 0)),
+        ("full", round(16, ENTRIES, 1, 5, 8)),
+        ("starts", round(16, ENTRIES, 11, 0, 0)),
     ]
 }
 

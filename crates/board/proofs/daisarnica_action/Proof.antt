@@ -1,40 +1,49 @@
-use mathlib.Core.Path.{_∙_, ap}
-use Rattle.protocol.specs.declared.Stepped.{Stepped}
-use Rattle.board.specs.Numbers.{frameNumbers, rowsAfter, rowsStep, verdictNumber}
+use Rattle.board.proofs.Rows.{action-taken, action-refused}
 use borrow.Author.Needs.{needs}
 use Rattle.board.proofs.daisarnica_action.Statement.{statement}
 use Rattle.board.proofs.daisarnica_action.Tie as tie
 
+row-length-requires : tie.Need-row-length-requires
+row-length-requires c κs = search needs
+
 input-in-requires : tie.Need-input-in-requires
 input-in-requires c κs = search needs
 
-rows-step-requires : tie.Need-rows-step-requires
-rows-step-requires c κs = search needs
+row-verdict-requires : tie.Need-row-verdict-requires
+row-verdict-requires c κs = search needs
 
-rows-after-requires : tie.Need-rows-after-requires
-rows-after-requires c κs = search needs
+enum-told : tie.Need-enum-told
+enum-told c = search needs
+
+take-requires : tie.Need-take-requires
+take-requires c κs = search needs
 
 frame-numbers-requires : tie.Need-frame-numbers-requires
 frame-numbers-requires c κs = search needs
 
-verdict-number-requires : tie.Need-verdict-number-requires
-verdict-number-requires c κs = search needs
+enum-known-v : tie.Need-enum-known-v
+enum-known-v c = search needs
+
+cause-number-requires : tie.Need-cause-number-requires
+cause-number-requires c κs = search needs
 
 returns : tie.Need-returns
-returns c =
-    let step = c .before .before .before .rows-step .ensures ∙ ap (rowsStep _) (c .before .before .before .before .input-in .ensures) in (
-      c .verdict-number .ensures ∙ ap (λ (s : Stepped). verdictNumber (s .verdict)) step,
-      c .before .before .rows-after .ensures ∙ ap (rowsAfter _) step,
-      c .before .frame-numbers .ensures ∙ ap (λ (s : Stepped). frameNumbers (s .frame)) step,
-    )
+returns c = rw (← c .before .before .before .before .before .before .before .input-in .ensures) (action-taken _ _ (c .before .before .before .before .before .before .before .before .row-length .ensures .1) _ (c .before .before .before .before .before .row-verdict .ensures) (c .before .before .before .enum-told .given .1) _ _ (c .before .take .ensures) _ (c .frame-numbers .ensures))
+
+returns-2 : tie.Need-returns-2
+returns-2 c = rw (← c .before .before .before .before .before .before .before .input-in .ensures) (action-refused _ _ _ (c .before .before .before .before .before .row-verdict .ensures) _ (c .before .before .before .v .given .1) _ (c .cause-number .ensures))
 
 pub daisarnica-action-spec : {M : Type 1} → statement M
 daisarnica-action-spec =
     tie.close
     (tie.spec
+    row-length-requires
     input-in-requires
-    rows-step-requires
-    rows-after-requires
+    row-verdict-requires
+    enum-told
+    take-requires
     frame-numbers-requires
-    verdict-number-requires
-    returns)
+    enum-known-v
+    cause-number-requires
+    returns
+    returns-2)

@@ -15,8 +15,8 @@ enum-known-x c = search needs
 enum-known-x-2 : tie.Need-enum-known-x-2
 enum-known-x-2 c = search needs
 
-verdict-number-requires : tie.Need-verdict-number-requires
-verdict-number-requires c κs = search needs
+cause-number-requires : tie.Need-cause-number-requires
+cause-number-requires c κs = search needs
 
 returns : tie.Need-returns
 returns c =
@@ -26,7 +26,7 @@ returns c =
 returns-2 : tie.Need-returns-2
 returns-2 c =
     let far = sym (c .before .before .before .before .counter-reading .ensures) ∙ c .before .before .x2 .given .1 in
-    ap (λ (k : ℕ). k ∷ 0 ∷ 0 ∷ []) (c .verdict-number .ensures) ∙ ap countedNumbers (sym far)
+    ap (λ (k : ℕ). k ∷ 0 ∷ 0 ∷ []) (c .cause-number .ensures) ∙ ap countedNumbers (sym far)
 
 pub daisarnica-reading-spec : {M : Type 1} → statement M
 daisarnica-reading-spec =
@@ -35,6 +35,6 @@ daisarnica-reading-spec =
     counter-reading-requires
     enum-known-x
     enum-known-x-2
-    verdict-number-requires
+    cause-number-requires
     returns
     returns-2)

@@ -1,53 +1,56 @@
-use Rattle.head.proofs.Laws.{range-fitting, bad-record, bad-entry, steps}
-use Rattle.actions.specs.Actions.{takeFitting}
-use Rattle.protocol.specs.Record.{reading}
-use Rattle.protocol.specs.declared.Action.{Action}
-use mathlib.Core.Bool.{true}
-use mathlib.Core.Path.{sym, _∙_, ap}
+use mathlib.Core.Path.{_≡_}
+use lib.ListN.{length}
+use Rattle.head.proofs.Steps.{refused-step, taken-step}
 use borrow.Author.Needs.{needs}
 use Rattle.head.proofs.step.Statement.{statement}
 use Rattle.head.proofs.step.Tie as tie
 
-record-in-range-requires : tie.Need-record-in-range-requires
-record-in-range-requires c κs = search needs
+row-of-requires : tie.Need-row-of-requires
+row-of-requires c κs = search needs
 
-input-fits-requires : tie.Need-input-fits-requires
-input-fits-requires c κs = search needs
+row-verdict-requires : tie.Need-row-verdict-requires
+row-verdict-requires c κs = search needs
 
-action-of-requires : tie.Need-action-of-requires
-action-of-requires c κs =
-    let args = c .before .before .before .before .args in
-    let f = range-fitting (args .r) (args .i) (sym (c .before .before .before .record-in-range .ensures) ∙ c .before .before .if1 .taken) (sym (c .before .input-fits .ensures) ∙ c .if2 .taken) in
-    (f .sender, f .serial, f .choice)
+enum-told : tie.Need-enum-told
+enum-told c = search needs
 
-take-action-requires : tie.Need-take-action-requires
-take-action-requires c κs = search needs
+take-requires : tie.Need-take-requires
+take-requires c κs = search needs
+
+record-in-requires : tie.Need-record-in-requires
+record-in-requires c κs = search needs
+
+frame-in-requires : tie.Need-frame-in-requires
+frame-in-requires c κs = search needs
+
+enum-known-v : tie.Need-enum-known-v
+enum-known-v c = search needs
 
 returns : tie.Need-returns
 returns c =
-    let args = c .before .before .before .before .before .before .args in
-    c .take-action .ensures
-    ∙ ap (λ (a : Action). takeFitting (args .r) (reading (args .i .reading)) true a) (c .before .action-of .ensures)
-    ∙ steps (args .r) (args .i) (sym (c .before .before .before .before .before .record-in-range .ensures) ∙ c .before .before .before .before .if1 .taken) (sym (c .before .before .before .input-fits .ensures) ∙ c .before .before .if2 .taken)
+    let of = c .before .before .before .before .before .before .before .before .before .row-of in
+    let args = c .before .before .before .before .before .before .before .before .before .before .args in
+    let long : length (of .result) ≡ 80 = search needs in
+    taken-step (args .r) (args .i) (of .result) (of .ensures) long _ (c .before .before .before .before .before .before .before .row-verdict .ensures)
+    (c .before .before .before .before .before .enum-told .given .1) _ _ (c .before .before .before .take .ensures) _ (c .before .record-in .ensures) _ (c .frame-in .ensures)
 
 returns-2 : tie.Need-returns-2
 returns-2 c =
-    let args = c .before .before .before .before .args in
-    bad-entry (args .r) (args .i) (sym (c .before .before .before .record-in-range .ensures) ∙ c .before .before .if1 .taken) (sym (c .before .input-fits .ensures) ∙ c .if2 .left)
-
-returns-3 : tie.Need-returns-3
-returns-3 c =
-    let args = c .before .before .args in
-    bad-record (args .r) (args .i) (sym (c .before .record-in-range .ensures) ∙ c .if1 .left)
+    let of = c .before .before .before .before .before .row-of in
+    let args = c .before .before .before .before .before .before .args in
+    let long : length (of .result) ≡ 80 = search needs in
+    refused-step (args .r) (args .i) (of .result) (of .ensures) long _ (c .before .before .before .row-verdict .ensures) _ (c .before .v .given .1)
 
 pub step-spec : {M : Type 1} → statement M
 step-spec =
     tie.close
     (tie.spec
-    record-in-range-requires
-    input-fits-requires
-    action-of-requires
-    take-action-requires
+    row-of-requires
+    row-verdict-requires
+    enum-told
+    take-requires
+    record-in-requires
+    frame-in-requires
+    enum-known-v
     returns
-    returns-2
-    returns-3)
+    returns-2)

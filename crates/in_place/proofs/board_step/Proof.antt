@@ -1,4 +1,4 @@
--- `board::board_step` meets its contract: a walk of its MIR, by hand. The borrow is opened and the record copied out;
+-- `in_place::board_step` meets its contract: a walk of its MIR, by hand. The borrow is opened and the record copied out;
 -- `head::step` is called on the copy, `after_of` gives the record to store, the borrow is closed at that record, and
 -- `answer_of` gives the result. Each value goes from call to call whole: none is spelled out.
 -- Assumes nothing.

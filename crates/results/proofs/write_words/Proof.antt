@@ -1,26 +1,24 @@
--- `write_words` puts the words of the first n heads in front and keeps the rest of the buffer.
+-- One head's words more at each turn; the rest of the buffer stays.
 use mathlib.Core.Path.{_≡_, refl}
-use mathlib.Core.List.{_++_}
-use Prim.Native.Nat.{_*_, _-_, _≤_}
-use denote.Ref.{now}
-use lib.ListN.{length, drop, length-set}
+use Prim.Native.Nat.{_-_, _≤_}
+use lib.ListN.{length, length-set}
 use Rattle.protocol.specs.Results.{wordsFrom}
-use Rattle.results.specs.Written.{recordAt}
-use Rattle.results.proofs.Words.{next-words}
+use Rattle.results.specs.Written.{Writes}
+use Rattle.results.proofs.Words.{next-head}
 use native.Mathlib.Omega.{arith}
 use borrow.Author.Needs.{needs}
 use Rattle.results.proofs.write_words.Statement.{statement}
 use Rattle.results.proofs.write_words.Tie as tie
 
 abbrev Inv-loop : tie.InvT-loop
-Inv-loop out₀ n records q₀ out q = (q ≤ n) × (length out ≡ length out₀) × (out ≡ wordsFrom (recordAt records) 0 q ++ drop (3 * q) out₀)
+Inv-loop out₀ n heads q₀ out q = (q ≤ n) × (length out ≡ length out₀) × Writes q heads out₀ out
 
 abbrev μ-loop : tie.MeasureT-loop
-μ-loop out₀ n records q₀ out q = n - q
+μ-loop out₀ n heads q₀ out q = n - q
 
 loop-holds : tie.Need-loop-holds Inv-loop μ-loop
 unfolding wordsFrom
-loop-holds c = (search needs, refl, refl)
+loop-holds c = (search needs, refl, λ r is range. refl)
 
 cast-i : tie.Need-cast-i Inv-loop μ-loop
 cast-i c = search needs
@@ -28,11 +26,11 @@ cast-i c = search needs
 mul-words-of : tie.Need-mul-words-of Inv-loop μ-loop
 mul-words-of c = search needs
 
-array-copy-out-words-of : tie.Need-array-copy-out-words-of Inv-loop μ-loop
-array-copy-out-words-of c = search needs
+index-1-words-of : tie.Need-index-1-words-of Inv-loop μ-loop
+index-1-words-of c = search needs
 
 words-of-requires : tie.Need-words-of-requires Inv-loop μ-loop
-words-of-requires c κs = (omega arith, c .before .before .before .before .pre .2 (c .before .before .loop .q) (c .before .loop-test .taken))
+words-of-requires c κs = omega arith
 
 mul-at : tie.Need-mul-at Inv-loop μ-loop
 mul-at c = search needs
@@ -68,7 +66,7 @@ loop-less : tie.Need-loop-less Inv-loop μ-loop
 loop-less c = search needs
 
 loop-again : tie.Need-loop-again Inv-loop μ-loop
-loop-again c = (omega arith, simp length-set (c .before .before .before .loop .inv .1), next-words (recordAt (c .before .before .before .before .before .args .t2)) (now (c .before .before .before .before .before .args .out)) _ _ _ _ _ (omega arith) (c .before .before .before .loop .inv .2) (c .words-of .ensures))
+loop-again c = (omega arith, simp length-set (c .before .before .before .loop .inv .1), next-head _ _ _ _ _ _ (c .before .before .loop-test .taken) (c .before .before .before .before .before .pre .0) (c .before .before .before .before .before .pre .1) (c .before .before .before .loop .inv .2) (c .words-of .ensures))
 
 same-length : tie.Need-same-length Inv-loop μ-loop
 same-length c = search needs
@@ -85,7 +83,7 @@ write-words-spec =
     loop-holds
     cast-i
     mul-words-of
-    array-copy-out-words-of
+    index-1-words-of
     words-of-requires
     mul-at
     mul-out

@@ -1,31 +1,52 @@
 use Prim.Native.Nat.{_-_}
+use native.Mathlib.Omega.{arith}
+use Rattle.protocol.specs.Words.{entryCount}
+use Rattle.tracing.specs.Follows.{Follows}
 use borrow.Author.Needs.{needs}
 use Rattle.trace.proofs.print_entries.Statement.{statement}
 use Rattle.trace.proofs.print_entries.Tie as tie
 
 abbrev Inv-loop : tie.InvT-loop
-Inv-loop sheet k₀ k = Unit {0}
+Inv-loop sheet heads₀ choices₀ carried₀ time₀ i₀ heads choices carried time i = Follows sheet i heads choices carried time
 
 abbrev μ-loop : tie.MeasureT-loop
-μ-loop sheet k₀ k = 4097 - k
+μ-loop sheet heads₀ choices₀ carried₀ time₀ i₀ heads choices carried time i = entryCount sheet - i
+
+first-heads-requires : tie.Need-first-heads-requires Inv-loop μ-loop
+first-heads-requires c κs = c .before .pre
 
 loop-holds : tie.Need-loop-holds Inv-loop μ-loop
-loop-holds c = search needs
+loop-holds c = c .first-heads .ensures
 
-print-entry-requires : tie.Need-print-entry-requires Inv-loop μ-loop
-print-entry-requires c κs = search needs
+trace-next-requires : tie.Need-trace-next-requires Inv-loop μ-loop
+trace-next-requires c κs = c .before .before .before .loop .inv
 
-add-k : tie.Need-add-k Inv-loop μ-loop
-add-k c = search needs
+enum-known-t : tie.Need-enum-known-t Inv-loop μ-loop
+enum-known-t c = search needs
+
+print-line-requires : tie.Need-print-line-requires Inv-loop μ-loop
+print-line-requires c κs = search needs
+
+add-i : tie.Need-add-i Inv-loop μ-loop
+add-i c = search needs
 
 loop-less : tie.Need-loop-less Inv-loop μ-loop
-loop-less c = search needs
+loop-less c = let reached = c .before .before .before .before .trace-next .ensures .1 _ (c .before .before .t .given .1) .reached in omega arith
 
 loop-again : tie.Need-loop-again Inv-loop μ-loop
-loop-again c = search needs
+loop-again c = c .before .before .before .before .trace-next .ensures .1 _ (c .before .before .t .given .1)
+
+enum-known-t-2 : tie.Need-enum-known-t-2 Inv-loop μ-loop
+enum-known-t-2 c = search needs
+
+print-refused-requires : tie.Need-print-refused-requires Inv-loop μ-loop
+print-refused-requires c κs = search needs
 
 returns : tie.Need-returns Inv-loop μ-loop
 returns c = search needs
+
+enum-told : tie.Need-enum-told Inv-loop μ-loop
+enum-told c = search needs
 
 returns-2 : tie.Need-returns-2 Inv-loop μ-loop
 returns-2 c = search needs
@@ -36,10 +57,16 @@ print-entries-spec =
     (tie.spec
     Inv-loop
     μ-loop
+    first-heads-requires
     loop-holds
-    print-entry-requires
-    add-k
+    trace-next-requires
+    enum-known-t
+    print-line-requires
+    add-i
     loop-less
     loop-again
+    enum-known-t-2
+    print-refused-requires
     returns
+    enum-told
     returns-2)

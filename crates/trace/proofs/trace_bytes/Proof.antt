@@ -17,12 +17,12 @@ words-of-requires c κs = search needs
 array-share-prefix-words : tie.Need-array-share-prefix-words
 array-share-prefix-words c = search needs
 
-slice-aggregate-print-entries : tie.Need-slice-aggregate-print-entries
-slice-aggregate-print-entries c =
+slice-aggregate-print-sheet : tie.Need-slice-aggregate-print-sheet
+slice-aggregate-print-sheet c =
     let n = c .before .words-of .ensures .0 in sym (length-take-le _ (c .before .words-of .result) (omega (arith, n, c .before .before .before .if1 .left)))
 
-print-entries-requires : tie.Need-print-entries-requires
-print-entries-requires c κs = search needs
+print-sheet-requires : tie.Need-print-sheet-requires
+print-sheet-requires c κs = search needs
 
 print-refused-requires-2 : tie.Need-print-refused-requires-2
 print-refused-requires-2 c κs = search needs
@@ -41,8 +41,8 @@ trace-bytes-spec =
     returns
     words-of-requires
     array-share-prefix-words
-    slice-aggregate-print-entries
-    print-entries-requires
+    slice-aggregate-print-sheet
+    print-sheet-requires
     print-refused-requires-2
     returns-2
     returns-3)

@@ -1,38 +1,34 @@
-use mathlib.Core.Path.{sym, _∙_}
-use borrow.Author.Tests.{ne-eqb}
-use Rattle.protocol.specs.Record.{correction, outcome}
+use mathlib.Core.Path.{_∙_}
+use Rattle.board.proofs.Frames.{adopted-correction, no-correction}
 use borrow.Author.Needs.{needs}
 use Rattle.board.proofs.numbers.correction_of.Statement.{statement}
 use Rattle.board.proofs.numbers.correction_of.Tie as tie
 
-outcome-requires : tie.Need-outcome-requires
-outcome-requires c κs = search needs
+array-read-if1 : tie.Need-array-read-if1
+array-read-if1 c = search needs
 
-chosen-start-requires : tie.Need-chosen-start-requires
-chosen-start-requires c κs = search needs
+array-read-difference : tie.Need-array-read-difference
+array-read-difference c = search needs
 
-reading-or-0-requires : tie.Need-reading-or-0-requires
-reading-or-0-requires c κs = search needs
+array-read-difference-2 : tie.Need-array-read-difference-2
+array-read-difference-2 c = search needs
 
 difference-requires : tie.Need-difference-requires
 difference-requires c κs = search needs
 
 returns : tie.Need-returns
-unfolding correction
-returns c =
-    let two = sym (c .before .before .before .before .outcome .ensures) ∙ c .before .before .before .if1 .taken in
-    _∙_ {b = c .difference .result} (search needs) (simp (two, c .difference .ensures, c .before .reading-or-0 .ensures, c .before .before .chosen-start .ensures))
+returns c = adopted-correction _ (c .before .if1 .taken) _ (_∙_ {b = c .difference .result} (search needs) (c .difference .ensures))
 
 returns-2 : tie.Need-returns-2
-returns-2 c = simp (ne-eqb (outcome _) 2 (λ two. c .if1 .left (c .before .outcome .ensures ∙ two)))
+returns-2 c = no-correction _ (c .if1 .left)
 
 pub correction-of-spec : {M : Type 1} → statement M
 correction-of-spec =
     tie.close
     (tie.spec
-    outcome-requires
-    chosen-start-requires
-    reading-or-0-requires
+    array-read-if1
+    array-read-difference
+    array-read-difference-2
     difference-requires
     returns
     returns-2)

@@ -2,39 +2,47 @@ use borrow.Author.Needs.{needs}
 use Rattle.board.proofs.numbers.input_in.Statement.{statement}
 use Rattle.board.proofs.numbers.input_in.Tie as tie
 
+element-copy-out-action-in : tie.Need-element-copy-out-action-in
+element-copy-out-action-in c = search needs
+
+element-copy-out-action-in-2 : tie.Need-element-copy-out-action-in-2
+element-copy-out-action-in-2 c = search needs
+
 action-in-requires : tie.Need-action-in-requires
 action-in-requires c κs = search needs
 
-array-read-t7 : tie.Need-array-read-t7
-array-read-t7 c = search needs
+element-copy-out-t11 : tie.Need-element-copy-out-t11
+element-copy-out-t11 c = search needs
 
-array-read-t10 : tie.Need-array-read-t10
-array-read-t10 c = search needs
+element-copy-out-t14 : tie.Need-element-copy-out-t14
+element-copy-out-t14 c = search needs
 
-array-read-t13 : tie.Need-array-read-t13
-array-read-t13 c = search needs
+element-copy-out-t17 : tie.Need-element-copy-out-t17
+element-copy-out-t17 c = search needs
 
-array-read-t16 : tie.Need-array-read-t16
-array-read-t16 c = search needs
+element-copy-out-t20 : tie.Need-element-copy-out-t20
+element-copy-out-t20 c = search needs
 
-array-read-t19 : tie.Need-array-read-t19
-array-read-t19 c = search needs
+element-copy-out-t23 : tie.Need-element-copy-out-t23
+element-copy-out-t23 c = search needs
 
-array-read-t22 : tie.Need-array-read-t22
-array-read-t22 c = search needs
+element-copy-out-t26 : tie.Need-element-copy-out-t26
+element-copy-out-t26 c = search needs
 
 returns : tie.Need-returns
-returns c = simp (c .action-in .ensures)
+returns c = simp (c .before .before .before .before .before .before .action-in .ensures)
 
 pub input-in-spec : {M : Type 1} → statement M
 input-in-spec =
     tie.close
     (tie.spec
+    element-copy-out-action-in
+    element-copy-out-action-in-2
     action-in-requires
-    array-read-t7
-    array-read-t10
-    array-read-t13
-    array-read-t16
-    array-read-t19
-    array-read-t22
+    element-copy-out-t11
+    element-copy-out-t14
+    element-copy-out-t17
+    element-copy-out-t20
+    element-copy-out-t23
+    element-copy-out-t26
     returns)

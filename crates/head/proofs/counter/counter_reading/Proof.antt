@@ -1,4 +1,4 @@
-use Rattle.head.proofs.Laws.{counts, too-far}
+use Rattle.head.proofs.Counts.{counts, too-far}
 use borrow.Author.Needs.{needs}
 use Rattle.head.proofs.counter.counter_reading.Statement.{statement}
 use Rattle.head.proofs.counter.counter_reading.Tie as tie

@@ -1,2 +1,0 @@
--- One action of one head.
-pub mod Actions

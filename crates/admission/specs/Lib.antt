@@ -1,2 +1,0 @@
--- Whether an action is taken.
-pub mod Admission

@@ -1,2 +1,0 @@
--- An action's effect in small parts.
-pub mod Changes

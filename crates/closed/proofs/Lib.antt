@@ -1,2 +1,0 @@
--- The code's test is the definition's.
-pub mod Same

@@ -1,2 +1,0 @@
--- When an action is closed, by a head's marks.
-pub mod Closed

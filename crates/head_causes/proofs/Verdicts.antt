@@ -1,0 +1,118 @@
+-- The verdict on an action, by the tests made of the head's row.
+-- Main results: `out-of-range`, `does-not-fit`, `reading-falls`, `is-shut`, `is-taken`.
+use mathlib.Core.Path.{_≡_, refl, sym, _∙_, ap, ap₂}
+use mathlib.Core.Bool.{Bool, true, false, cond, not, _&&_, _||_}
+use mathlib.Core.List.{List}
+use mathlib.Core.Logic.{_≢_}
+use Prim.Native.Nat.{ℕ, zero, suc, _≤_, _<_}
+use native.Mathlib.Omega.{arith}
+use lib.Dec.{ltb, leb, eqb}
+use lib.ListN.{getD}
+use borrow.Author.Tests.{lt-ltb, le-ltb, ne-eqb, eqb-true, leb-true}
+use Rattle.protocol.specs.declared.HeadRecord.{HeadRecord}
+use Rattle.protocol.specs.declared.Input.{Input}
+use Rattle.protocol.specs.declared.Action.{Action}
+use Rattle.protocol.specs.declared.Action.the-variants.{Look}
+use Rattle.protocol.specs.declared.Stepped.{Stepped}
+use Rattle.protocol.specs.declared.Verdict.the-variants.{Accepted, Refused}
+use Rattle.protocol.specs.declared.Cause.the-variants.{BadEntry, ReadingFell, ActionClosed, BadRecord}
+use Rattle.protocol.specs.Words.{hasSerial}
+use Rattle.protocol.specs.Record.{reading, marksNumber, recordInRange}
+use Rattle.protocol.specs.Step.{number, isOwnFrame, isClosed, closedBy, takeAction, withLast, actionsOf, actionOf, inputFits, step}
+use Rattle.protocol.specs.Row.{recordIn, rowFits, rowInRange}
+use Rattle.protocol.specs.Board.{rowStep}
+use Rattle.protocol.proofs.Tests.{absurd-bool, and-left, and-right}
+use Rattle.protocol.proofs.Effects.{effect-accepted}
+use Rattle.head_open.proofs.Marks.{closed-by-marks}
+
+-- WHEN AN ACTION IS CLOSED, by the caller's numbers
+
+abbrev closedAt : Input → ℕ → ℕ → ℕ → Bool
+closedAt i own marks k = hasSerial k && eqb (i .sender) own || closedBy k marks
+
+module _ (i : Input) (r : HeadRecord) where
+  abbrev action : ℕ → Action
+  action k = getD (actionsOf i) k Look
+
+  by-marks : (k : ℕ) → isClosed r (action k) ≡ (isOwnFrame r (action k) || closedBy (number (action k)) (marksNumber r))
+  unfolding isClosed
+  by-marks k = ap (λ (b : Bool). isOwnFrame r (action k) || b) (closed-by-marks r (action k))
+
+  closed-at : (k : ℕ) → k ≤ 9 → isClosed r (action k) ≡ closedAt i (r .own) (marksNumber r) k
+  closed-at zero h = by-marks 0
+  closed-at (suc zero) h = by-marks 1
+  closed-at (suc (suc zero)) h = by-marks 2
+  closed-at (suc (suc (suc zero))) h = by-marks 3
+  closed-at (suc (suc (suc (suc zero)))) h = by-marks 4
+  closed-at (suc (suc (suc (suc (suc zero))))) h = by-marks 5
+  closed-at (suc (suc (suc (suc (suc (suc zero)))))) h = by-marks 6
+  closed-at (suc (suc (suc (suc (suc (suc (suc zero))))))) h = by-marks 7
+  closed-at (suc (suc (suc (suc (suc (suc (suc (suc zero)))))))) h = by-marks 8
+  closed-at (suc (suc (suc (suc (suc (suc (suc (suc (suc zero))))))))) h = by-marks 9
+  closed-at (suc (suc (suc (suc (suc (suc (suc (suc (suc (suc k)))))))))) h = absurd (omega arith)
+
+-- by the tests made
+module _ (i : Input) (own marks : ℕ) where
+  pub by-sender : (k : ℕ) → hasSerial k ≡ true → closedBy k marks ≡ false → i .action ≡ k → (b : Bool) → b ≡ eqb (i .sender) own → b ≡ closedAt i own marks (i .action)
+  by-sender k serial none is b e = rw (is, serial, none) (e ∙ sym (or-false (eqb (i .sender) own)))
+    where
+      or-false : (b : Bool) → (b || false) ≡ b
+      or-false true = refl
+      or-false false = refl
+
+  pub by-marks-alone : i .action ≢ 5 → i .action ≢ 8 → (b : Bool) → b ≡ closedBy (i .action) marks → b ≡ closedAt i own marks (i .action)
+  by-marks-alone five eight b e = rw (ne-eqb (i .action) 5 five, ne-eqb (i .action) 8 eight) e
+
+-- THE TESTS IN THEIR ORDER
+
+module _ (w : List ℕ) (i : Input) where
+  pub out-of-range : rowInRange w ≡ false → Refused BadRecord ≡ rowStep w i .verdict
+  unfolding rowInRange rowStep step
+  out-of-range h = go (rowFits w) refl (recordInRange (recordIn w)) refl
+    where
+      go : (a : Bool) → rowFits w ≡ a → (b : Bool) → recordInRange (recordIn w) ≡ b → Refused BadRecord ≡ rowStep w i .verdict
+      go false u b v = rw u refl
+      go true u false v = rw (u, v) refl
+      go true u true v = absurd-bool (ap₂ _&&_ u v) h
+
+  module _ (h : rowInRange w ≡ true) where
+    fits : rowFits w ≡ true
+    unfolding rowInRange
+    fits = and-left (rowFits w) _ h
+
+    in-range : recordInRange (recordIn w) ≡ true
+    unfolding rowInRange
+    in-range = and-right (rowFits w) _ h
+
+    pub does-not-fit : inputFits (getD w 7 0) i ≡ false → Refused BadEntry ≡ rowStep w i .verdict
+    unfolding rowStep step recordIn
+    does-not-fit f = rw (fits, in-range, f) refl
+
+    module _ (f : inputFits (getD w 7 0) i ≡ true) where
+      taken : rowStep w i ≡ takeAction (recordIn w) (reading (i .reading)) true (actionOf i)
+      unfolding rowStep step recordIn
+      taken = rw (fits, in-range, f) refl
+
+      pub reading-falls : i .reading < getD w 0 0 → Refused ReadingFell ≡ rowStep w i .verdict
+      unfolding takeAction recordIn
+      reading-falls lt = rw (taken, lt-ltb _ _ lt) refl
+
+      -- the marks that the row has are those of its record
+      marks-are : getD w 1 0 ≡ marksNumber (recordIn w)
+      unfolding rowFits
+      marks-are = eqb-true _ _ (and-left (eqb (getD w 1 0) (marksNumber (recordIn w))) _ fits)
+
+      closed-is : isClosed (recordIn w) (actionOf i) ≡ closedAt i (getD w 9 0) (getD w 1 0) (i .action)
+      unfolding actionOf inputFits recordIn
+      closed-is =
+          closed-at i (recordIn w) (i .action) (leb-true (i .action) 9 (and-left (leb (i .action) 9) _ f))
+          ∙ ap (λ (m : ℕ). closedAt i (getD w 9 0) m (i .action)) (sym marks-are)
+
+      module _ (rises : getD w 0 0 ≤ i .reading) (b : Bool) (is : b ≡ closedAt i (getD w 9 0) (getD w 1 0) (i .action)) where
+        pub is-shut : b ≡ true → Refused ActionClosed ≡ rowStep w i .verdict
+        unfolding takeAction recordIn
+        is-shut e = rw (taken, le-ltb _ _ rises, closed-is, sym is ∙ e) refl
+
+        pub is-taken : b ≡ false → Accepted ≡ rowStep w i .verdict
+        unfolding takeAction recordIn
+        is-taken e = rw (taken, le-ltb _ _ rises, closed-is, sym is ∙ e) (ap (λ (t : Stepped). t .verdict) (effect-accepted (withLast (recordIn w) (reading (i .reading))) (actionOf i)))

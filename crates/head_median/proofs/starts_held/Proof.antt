@@ -1,0 +1,14 @@
+use mathlib.Core.Path.{_∙_}
+use Rattle.head_median.proofs.Records.{starts-read}
+use borrow.Author.Needs.{needs}
+use Rattle.head_median.proofs.starts_held.Statement.{statement}
+use Rattle.head_median.proofs.starts_held.Tie as tie
+
+readings-held-requires : tie.Need-readings-held-requires
+readings-held-requires c κs = search needs
+
+returns : tie.Need-returns
+returns c = λ r is f. c .readings-held .ensures ∙ starts-read _ r is f
+
+pub starts-held-spec : {M : Type 1} → statement M
+starts-held-spec = tie.close (tie.spec readings-held-requires returns)

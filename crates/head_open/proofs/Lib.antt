@@ -1,0 +1,2 @@
+-- A head's marks as one number.
+pub mod Marks

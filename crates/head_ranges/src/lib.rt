@@ -1,0 +1,120 @@
+// Whether a row of numbers holds a record in its ranges.
+ghost use mathlib.Core.Path.{_≡_};
+ghost use mathlib.Core.Bool.{cond, _&&_, _||_};
+ghost use Prim.Native.Nat.{_+_, _%_, _≤_, _<_};
+ghost use lib.Dec.{ltb, eqb};
+ghost use Rattle.protocol.specs.Words.{isTime, headsFit};
+ghost use Rattle.protocol.specs.Record.{isNumber, markNumber, sentInRange};
+ghost use Rattle.protocol.specs.Row.{numberIn, recordIn, rowFits, rowInRange};
+ghost use Rattle.head_ranges.specs.Parts.{spareIsZero, marksAllowed, sendersInRange, exceeds, beyond};
+
+// 1 if b exceeds a, else 0.
+fn one_if_less(a: u32, b: u32) -> u32
+    ensures { λ k. ⌜ (k ≡ exceeds a b) × (k ≤ 1) ⌝ }
+{
+    if a < b { 1 } else { 0 }
+}
+
+// The lower six marks are any; the one for a candidate stands exactly with a candidate, and there is no other.
+fn marks_agree(m: u32, candidate: u32) -> bool
+    ensures { λ b. ⌜ b ≡ eqb m (m % 64 + markNumber (isNumber (numberIn candidate)) 64) ⌝ }
+{
+    m / 64 == one_if_less(0, candidate)
+}
+
+fn spare_is_zero(row: &[u32; 80]) -> bool
+    ensures { λ b. ⌜ b ≡ spareIsZero (now (row .entry)) ⌝ }
+{
+    (row[10] | (row[11] | (row[12] | (row[13] | (row[14] | row[15]))))) == 0
+}
+
+fn row_fits(row: &[u32; 80]) -> bool
+    ensures { λ b. ⌜ b ≡ rowFits (now (row .entry)) ⌝ }
+{
+    marks_agree(row[1], row[2]) && spare_is_zero(row)
+}
+
+// 2f + 1 is at most n where f is less than half of n, rounded up.
+pub fn heads_fit(n: u32, f: u32) -> bool
+    ensures { λ b. ⌜ b ≡ headsFit n f ⌝ }
+{
+    2 <= n && (n <= 16 && f < (n + 1) / 2)
+}
+
+fn bench_fits(n: u32, f: u32, own: u32) -> bool
+    ensures { λ b. ⌜ b ≡ (headsFit n f && ltb own n) ⌝ }
+{
+    heads_fit(n, f) && own < n
+}
+
+// The adjustment is 0 without an adjuster.
+fn times_fit(last: u32, adjustment: u32, adjuster: u32) -> bool
+    ensures { λ b. ⌜ b ≡ (isTime last && (isTime adjustment && (isNumber (numberIn adjuster) || eqb adjustment 0))) ⌝ }
+{
+    last < 268435456 && (adjustment < 268435456 && (adjuster != 0 || adjustment == 0))
+}
+
+// A choice, one more than itself or 0 for none, and the number of frames sent for it.
+fn phase_fits(n: u32, choice: u32, sent: u32) -> bool
+    ensures { λ b. ⌜ b ≡ sentInRange n (numberIn choice) sent ⌝ }
+{
+    if choice == 0 {
+        sent == 0
+    } else {
+        choice <= n && (1 <= sent && sent - 1 <= n - choice)
+    }
+}
+
+// Confirmed only if sent, turn only if confirmed, adjust turn or close only after vote close: each by two marks or three,
+// which stand side by side.
+fn marks_fit(m: u32) -> bool
+    ensures { λ b. ⌜ b ≡ marksAllowed m ⌝ }
+{
+    m % 4 != 2 && (m / 2 % 4 != 2 && (m / 16 % 4 == 0 || m / 8 % 2 == 1))
+}
+
+// The greatest number that may be kept of sender p: 0, none, from n on.
+fn greatest(n: u32, p: u32, x: u32) -> u32
+    ensures { λ m. ⌜ m ≡ cond (ltb p n) x 0 ⌝ }
+{
+    if p < n { x } else { 0 }
+}
+
+// How many of the four numbers kept of sender p are greater than the greatest.
+fn numbers_beyond(row: &[u32; 80], p: u32) -> u32
+    requires { ⌜ p < 16 ⌝ }
+    ensures { λ k. ⌜ k ≡ beyond (now (row .entry)) p ⌝ }
+{
+    let i = p as usize;
+    let reading = greatest(row[7], p, 268435456);
+    let serial = greatest(row[7], p, 16);
+    one_if_less(reading, row[16 + i])
+        + one_if_less(reading, row[32 + i])
+        + (one_if_less(serial, row[48 + i]) + one_if_less(serial, row[64 + i]))
+}
+
+// A sum without branches, which takes several senders at once.
+fn senders_in_range(row: &[u32; 80]) -> bool
+    ensures { λ b. ⌜ b ≡ sendersInRange (recordIn (now (row .entry))) ⌝ }
+{
+    let mut bad: u32 = 0;
+    let mut p: u32 = 0;
+    while p < 16 {
+        bad += numbers_beyond(row, p);
+        p += 1;
+    }
+    bad == 0
+}
+
+// Whether a row holds a record in its ranges (else cause 10).
+pub fn row_in_range(row: &[u32; 80]) -> bool
+    ensures { λ b. ⌜ b ≡ rowInRange (now (row .entry)) ⌝ }
+{
+    let n = row[7];
+    row_fits(row)
+        && (bench_fits(n, row[8], row[9])
+            && (times_fit(row[0], row[6], row[4])
+                && (phase_fits(n, row[2], row[3])
+                    && (phase_fits(n, row[4], row[5])
+                        && (marks_fit(row[1]) && senders_in_range(row))))))
+}

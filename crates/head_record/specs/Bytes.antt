@@ -1,0 +1,61 @@
+-- The record that a row holds and the frame that numbers stand for, where a head number, a count or a serial becomes a byte.
+use mathlib.Core.Path.{_≡_}
+use mathlib.Core.Bool.{true}
+use mathlib.Core.List.{List, map}
+use Prim.Native.Nat.{ℕ, _%_, _^_, _<_}
+use Rattle.protocol.specs.declared.OptNumber.{OptNumber}
+use Rattle.protocol.specs.declared.OptNumber.the-variants.{NoNumber, SomeNumber}
+use Rattle.protocol.specs.declared.Sender.{Sender}
+use Rattle.protocol.specs.declared.Phase.{Phase}
+use Rattle.protocol.specs.declared.HeadRecord.{HeadRecord}
+use Rattle.protocol.specs.declared.Sent.{Sent}
+use Rattle.protocol.specs.declared.Frame.{Frame}
+use Rattle.protocol.specs.declared.Frame.the-variants.{NoFrame, Start, Vote, Adjust}
+use Rattle.protocol.specs.Record.{readingOr0}
+use Rattle.protocol.specs.Step.{hasMark}
+use Rattle.protocol.specs.Row.{numberIn, recordIn, rowInRange, sentOf}
+
+-- the eight lowest bits of each
+abbrev pub cutNumber : OptNumber → OptNumber
+cutNumber NoNumber = NoNumber
+cutNumber (SomeNumber k) = SomeNumber (k % 256)
+
+abbrev pub cutSender : Sender → Sender
+cutSender k = record { start = k .start; vote = k .vote; voted = cutNumber (k .voted); adjusted = cutNumber (k .adjusted) }
+
+abbrev pub cutPhase : Phase → Phase
+cutPhase p = record { turn = p .turn; closed = p .closed; choice = cutNumber (p .choice); sent = p .sent % 256 }
+
+unfoldable pub cut : HeadRecord → HeadRecord
+cut r =
+    record {
+      n = r .n % 256;
+      f = r .f % 256;
+      own = r .own % 256;
+      last = r .last;
+      started = r .started;
+      confirmed = r .confirmed;
+      vote = cutPhase (r .vote);
+      adjust = cutPhase (r .adjust);
+      adjustment = r .adjustment;
+      senders = map cutSender (r .senders);
+    }
+
+-- a phase of a row, by the weights of its marks
+abbrev pub phaseIn : ℕ → ℕ → ℕ → ℕ → ℕ → Phase
+phaseIn marks turn closed choice sent = record { turn = hasMark marks turn; closed = hasMark marks closed; choice = numberIn choice; sent = sent }
+
+-- r is the record that the row holds, if the row is in its ranges
+abbrev pub Holds : List ℕ → HeadRecord → Type 0
+Holds w r = rowInRange w ≡ true → r ≡ recordIn w
+
+-- a frame whose serial and choice are bytes, and whose reading has 28 bits
+abbrev pub FrameSized : Frame → Type 0
+FrameSized NoFrame = Unit {0}
+FrameSized Start = Unit {0}
+FrameSized (Vote k c x) = (k < 256) × (c < 256) × (readingOr0 x < 2 ^ 28)
+FrameSized (Adjust k c x) = (k < 256) × (c < 256) × (x .0 < 2 ^ 28)
+
+-- y is the frame whose numbers s has
+abbrev pub StandsFor : Sent → Frame → Type 0
+StandsFor s y = (x : Frame) → FrameSized x → s ≡ sentOf x → y ≡ x

@@ -1,0 +1,224 @@
+// A head's record by value and its row: the row of a record, the record that a row in its ranges holds, and a frame from its
+// numbers.
+use head_open::has_mark;
+use protocol::Frame;
+use protocol::HeadRecord;
+use protocol::OptNumber;
+use protocol::OptReading;
+use protocol::Phase;
+use protocol::Reading;
+use protocol::Sender;
+use protocol::Sent;
+use values::is_number;
+ghost use mathlib.Core.Path.{_≡_};
+ghost use mathlib.Core.List.{map};
+ghost use Prim.Native.Nat.{_%_, _<_, _≤_};
+ghost use Rattle.protocol.specs.Base.{table};
+ghost use Rattle.protocol.specs.Record.{markNumber, marksNumber};
+ghost use Rattle.protocol.specs.Row.{numberIn, numberPlus1, readingIn, readingPlus1, rowOf, senderIn};
+ghost use Rattle.head_record.specs.Filling.{bare, withNumbers, Completes};
+ghost use Rattle.head_record.specs.Bytes.{cutNumber, cutPhase, cutSender, phaseIn, Holds, StandsFor};
+
+fn number_plus_1(k: OptNumber) -> u32
+    ensures { λ w. ⌜ w ≡ numberPlus1 k ⌝ }
+{
+    match k {
+        OptNumber::NoNumber => 0,
+        OptNumber::SomeNumber(j) => j as u32 + 1,
+    }
+}
+
+// A reading beyond 28 bits, which no record in its ranges has, is written as the lowest of them.
+fn reading_plus_1(k: OptReading) -> u32
+    ensures { λ w. ⌜ w ≡ readingPlus1 k ⌝ }
+{
+    match k {
+        OptReading::NoReading => 0,
+        OptReading::SomeReading(x) => { if x.0 < 268435456 { x.0 + 1 } else { 268435457 } }
+    }
+}
+
+fn mark_number(b: bool, weight: u32) -> u32
+    ensures { λ w. ⌜ (w ≡ markNumber b weight) × (w ≤ weight) ⌝ }
+{
+    if b { weight } else { 0 }
+}
+
+fn marks_number(r: HeadRecord) -> u32
+    ensures { λ m. ⌜ m ≡ marksNumber r ⌝ }
+{
+    let v = r.vote;
+    let choice = v.choice;
+    let candidate = is_number(choice);
+    mark_number(r.started, 1)
+        + mark_number(r.confirmed, 2)
+        + mark_number(r.vote.turn, 4)
+        + mark_number(r.vote.closed, 8)
+        + mark_number(r.adjust.turn, 16)
+        + mark_number(r.adjust.closed, 32)
+        + mark_number(candidate, 64)
+}
+
+// The head's own numbers, and nothing kept by sender.
+fn bare_row(r: HeadRecord) -> [u32; 80]
+    ensures { λ w. ⌜ w ≡ rowOf (bare r) ⌝ }
+{
+    let vote = r.vote;
+    let adjust = r.adjust;
+    let candidate = vote.choice;
+    let adjuster = adjust.choice;
+    let mut row = [0u32; 80];
+    row[0] = r.last.0;
+    row[1] = marks_number(r);
+    row[2] = number_plus_1(candidate);
+    row[3] = vote.sent as u32;
+    row[4] = number_plus_1(adjuster);
+    row[5] = adjust.sent as u32;
+    row[6] = r.adjustment.0;
+    row[7] = r.n as u32;
+    row[8] = r.f as u32;
+    row[9] = r.own as u32;
+    row
+}
+
+fn put_sender(row: &mut [u32; 80], p: usize, k: Sender)
+    requires { ⌜ p < 16 ⌝ }
+    ensures { λ _. ⌜ now (row .exit) ≡ withNumbers (now (row .entry)) p k ⌝ }
+{
+    let start = k.start;
+    let vote = k.vote;
+    let voted = k.voted;
+    let adjusted = k.adjusted;
+    row[16 + p] = reading_plus_1(start);
+    row[32 + p] = reading_plus_1(vote);
+    row[48 + p] = number_plus_1(voted);
+    row[64 + p] = number_plus_1(adjusted);
+}
+
+// What is kept by sender, in its places.
+fn put_senders(row: &mut [u32; 80], senders: [Sender; 16])
+    ensures { λ _. ⌜ Completes (now (row .entry)) senders (now (row .exit)) ⌝ }
+{
+    let mut i: usize = 0;
+    while i < 16 {
+        let k = senders[i];
+        put_sender(row, i, k);
+        i += 1;
+    }
+}
+
+// The row of a record.
+pub fn row_of(r: HeadRecord) -> [u32; 80]
+    ensures { λ w. ⌜ w ≡ rowOf r ⌝ }
+{
+    let senders = r.senders;
+    let mut row = bare_row(r);
+    put_senders(&mut row, senders);
+    row
+}
+
+// A head number, a count or a serial. In a row in its ranges it has no higher bits.
+fn byte(w: u32) -> u8
+    ensures { λ k. ⌜ k ≡ w % 256 ⌝ }
+{
+    (w % 256) as u8
+}
+
+fn number_in(w: u32) -> OptNumber
+    ensures { λ k. ⌜ k ≡ cutNumber (numberIn w) ⌝ }
+{
+    if w == 0 {
+        OptNumber::NoNumber
+    } else {
+        OptNumber::SomeNumber(byte(w - 1))
+    }
+}
+
+fn reading_in(w: u32) -> OptReading
+    ensures { λ x. ⌜ x ≡ readingIn w ⌝ }
+{
+    if w == 0 {
+        OptReading::NoReading
+    } else {
+        OptReading::SomeReading(Reading(w - 1))
+    }
+}
+
+fn sender_in(row: &[u32; 80], p: usize) -> Sender
+    requires { ⌜ p < 16 ⌝ }
+    ensures { λ k. ⌜ k ≡ cutSender (senderIn (now (row .entry)) p) ⌝ }
+{
+    let start = reading_in(row[16 + p]);
+    let vote = reading_in(row[32 + p]);
+    let voted = number_in(row[48 + p]);
+    let adjusted = number_in(row[64 + p]);
+    Sender {
+        start,
+        vote,
+        voted,
+        adjusted,
+    }
+}
+
+fn senders_in(row: &[u32; 80]) -> [Sender; 16]
+    ensures { λ l. ⌜ l ≡ map cutSender (table (senderIn (now (row .entry))) 0 16) ⌝ }
+{
+    let first = sender_in(row, 0);
+    let mut l = [first; 16];
+    let mut i: usize = 1;
+    while i < 16 {
+        let k = sender_in(row, i);
+        l[i] = k;
+        i += 1;
+    }
+    l
+}
+
+// A phase, by the weights of its marks.
+fn phase_in(marks: u32, turn: u32, closed: u32, choice: u32, sent: u32) -> Phase
+    requires { ⌜ (0 < turn) × (0 < closed) ⌝ }
+    ensures { λ p. ⌜ p ≡ cutPhase (phaseIn marks turn closed choice sent) ⌝ }
+{
+    let choice = number_in(choice);
+    Phase {
+        turn: has_mark(marks, turn),
+        closed: has_mark(marks, closed),
+        choice,
+        sent: byte(sent),
+    }
+}
+
+// The record that a row in its ranges holds.
+pub fn record_in(row: &[u32; 80]) -> HeadRecord
+    ensures { λ r. ⌜ Holds (now (row .entry)) r ⌝ }
+{
+    let marks = row[1];
+    let vote = phase_in(marks, 4, 8, row[2], row[3]);
+    let adjust = phase_in(marks, 16, 32, row[4], row[5]);
+    let senders = senders_in(row);
+    HeadRecord {
+        n: byte(row[7]),
+        f: byte(row[8]),
+        own: byte(row[9]),
+        last: Reading(row[0]),
+        started: has_mark(marks, 1),
+        confirmed: has_mark(marks, 2),
+        vote,
+        adjust,
+        adjustment: Reading(row[6]),
+        senders,
+    }
+}
+
+// The frame that the numbers stand for.
+pub fn frame_in(s: Sent) -> Frame
+    ensures { λ y. ⌜ StandsFor s y ⌝ }
+{
+    let kind = s.kind;
+    match kind {
+        2 => Frame::Start,
+        5 => Frame::Vote(byte(s.serial), byte(s.choice), reading_in(s.carried)),
+        8 => Frame::Adjust(byte(s.serial), byte(s.choice), Reading(s.carried)),
+        _ => Frame::NoFrame,
+    }
+}

@@ -1,0 +1,15 @@
+// A head's row of numbers before its first action.
+ghost use mathlib.Core.Path.{_≡_};
+ghost use Rattle.protocol.specs.Record.{fresh};
+ghost use Rattle.protocol.specs.Row.{rowOf};
+
+// The row of a head's fresh record.
+pub fn fresh_row(n: u32, f: u32, own: u32) -> [u32; 80]
+    ensures { λ w. ⌜ w ≡ rowOf (fresh n f own) ⌝ }
+{
+    let mut row = [0u32; 80];
+    row[7] = n;
+    row[8] = f;
+    row[9] = own;
+    row
+}

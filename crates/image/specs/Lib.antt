@@ -1,2 +1,0 @@
--- A head's record as rows of numbers.
-pub mod Rows

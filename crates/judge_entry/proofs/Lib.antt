@@ -1,0 +1,4 @@
+-- What one more entry changes in what the judge keeps.
+pub mod Steady
+pub mod Ended
+pub mod Watches

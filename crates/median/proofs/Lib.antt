@@ -1,3 +1,0 @@
--- What is proved of the counts.
-pub mod Ranks
-pub mod Readings

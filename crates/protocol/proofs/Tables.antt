@@ -1,0 +1,70 @@
+-- Tables of a function's values, and lists that hold them.
+use mathlib.Core.Path.{_≡_, refl, sym, _∙_, ap}
+use mathlib.Core.Bool.{Bool, false, cond}
+use mathlib.Core.List.{List}
+use Prim.Native.Nat.{ℕ, zero, suc, _+_, _<_}
+use mathlib.Core.Logic.{_≢_}
+use native.Mathlib.Nat.{not-suc-le-zero}
+use native.Mathlib.Omega.{arith}
+use lib.ListN.{length, getD, set, length-set}
+use lib.Seq.{ext-getD, getD-set-same, getD-set-other}
+use lib.Dec.{ltb, eqb}
+use borrow.Author.Count.{below-more}
+use borrow.Author.Tests.{eqb-true, eqb-false, ltb-true, ltb-false, lt-ltb, le-ltb}
+use Rattle.protocol.proofs.Tests.{cases}
+use Rattle.protocol.specs.Base.{table}
+
+module _ {A : Type 0} where
+  pub length-table : (f : ℕ → A) (i k : ℕ) → length (table f i k) ≡ k
+  length-table f i zero = refl
+  length-table f i (suc k) = ap suc (length-table f (suc i) k)
+
+  table-from : (f : ℕ → A) (i k j : ℕ) (d : A) → j < k → getD (table f i k) j d ≡ f (i + j)
+  table-from f i zero j d h = absurd (not-suc-le-zero h)
+  table-from f i (suc k) zero d h = ap f (omega arith)
+  table-from f i (suc k) (suc j) d h = table-from f (suc i) k j d (omega arith) ∙ ap f (omega arith)
+
+  pub table-at : (f : ℕ → A) (k j : ℕ) (d : A) → j < k → getD (table f 0 k) j d ≡ f j
+  table-at f k j d h = table-from f 0 k j d h ∙ ap f (omega arith)
+
+  -- a list that holds the values is the table
+  pub is-table : (f : ℕ → A) (k : ℕ) (d : A) (l : List A) → length l ≡ k → ((j : ℕ) → j < k → getD l j d ≡ f j) → l ≡ table f 0 k
+  is-table f k d l n h =
+      ext-getD d l (table f 0 k) (n ∙ sym (length-table f 0 k)) (λ j lt. let below : j < k = omega arith in h j below ∙ sym (table-at f k j d below))
+
+  -- a table with one value changed
+  pub set-table : (f h : ℕ → A) (k q : ℕ) (x d : A) → q < k → h q ≡ x → ((j : ℕ) → j < k → eqb j q ≡ false → h j ≡ f j) → set (table f 0 k) q x ≡ table h 0 k
+  set-table f h k q x d l e o =
+      is-table h k d (set (table f 0 k) q x) (length-set (table f 0 k) q x ∙ length-table f 0 k)
+      (λ j lt. cases (eqb j q)
+      (λ t. let same = eqb-true j q t in at same)
+      (λ t. getD-set-other (table f 0 k) q j x d (λ z. eqb-false j q t z) ∙ table-at f k j d lt ∙ sym (o j lt t)))
+    where
+      inside : q < length (table f 0 k)
+      inside = rw (length-table f 0 k) l
+
+      at : {j : ℕ} → j ≡ q → getD (set (table f 0 k) q x) j d ≡ h j
+      at {j} same = ap (λ (i : ℕ). getD (set (table f 0 k) q x) i d) same ∙ getD-set-same (table f 0 k) q x d inside ∙ sym e ∙ ap h (sym same)
+
+  -- a list that is filled by a function of the index, one more
+  pub fill-next : (f : ℕ → A) (l : List A) (i : ℕ) (x d : A) → i < length l → x ≡ f i → ((k : ℕ) → k < i → getD l k d ≡ f k) → (k : ℕ) → k < i + 1 → getD (set l i x) k d ≡ f k
+  fill-next f l i x d h e ih =
+      below-more _ i (λ k lt. getD-set-other l i k x d (λ q. omega arith) ∙ ih k lt) (getD-set-same l i x d h ∙ e)
+
+  -- a list that holds one function's values below i and another's above, one more
+  pub fill-over : (f h : ℕ → A) (l : List A) (k i : ℕ) (x d : A) → length l ≡ k → i < k → x ≡ f i
+      → ((j : ℕ) → j < k → getD l j d ≡ cond (ltb j i) (f j) (h j)) → (j : ℕ) → j < k → getD (set l i x) j d ≡ cond (ltb j (i + 1)) (f j) (h j)
+  fill-over f h l k i x d n lt e ih j b =
+      cases (eqb j i)
+      (λ t. let same = eqb-true j i t in at same)
+      (λ t. getD-set-other l i j x d (λ z. eqb-false j i t z) ∙ ih j b ∙ ap (λ (c : Bool). cond c (f j) (h j)) (not-i (λ z. eqb-false j i t z)))
+    where
+      at : {j : ℕ} → j ≡ i → getD (set l i x) j d ≡ cond (ltb j (i + 1)) (f j) (h j)
+      at {j} same =
+          ap (λ (m : ℕ). getD (set l i x) m d) same ∙ getD-set-same l i x d (rw n lt) ∙ e ∙ ap f (sym same)
+          ∙ ap (λ (c : Bool). cond c (f j) (h j)) (sym (lt-ltb j (i + 1) (omega arith)))
+
+      not-i : j ≢ i → ltb j i ≡ ltb j (i + 1)
+      not-i z = cases (ltb j i)
+          (λ t. let below = ltb-true j i t in t ∙ sym (lt-ltb j (i + 1) (omega arith)))
+          (λ t. let above = ltb-false j i t in t ∙ sym (le-ltb j (i + 1) (omega (arith, z))))

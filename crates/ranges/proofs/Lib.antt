@@ -1,2 +1,0 @@
--- The code's tests together are the definition's.
-pub mod Parts

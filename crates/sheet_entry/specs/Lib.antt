@@ -1,0 +1,2 @@
+-- When an entry is open.
+pub mod Open
