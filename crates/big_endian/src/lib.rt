@@ -1,8 +1,24 @@
-// The big-endian words of a sheet that is given as bytes.
+// A sheet that is given as bytes: causes 1 and 2 of them, and their big-endian words.
+use protocol::Cause;
+use protocol::Verdict;
 ghost use mathlib.Core.Path.{_≡_};
 ghost use Prim.Native.Nat.{_/_, _≤_, _<_};
 ghost use lib.ListN.{length, take, getD};
-ghost use Rattle.protocol.specs.Program.{bigEndian};
+ghost use Rattle.protocol.specs.Program.{bigEndian, bytesVerdict};
+
+// "above 49,160 bytes is cause 1, tested first; a length not a multiple of 4 is cause 2"
+pub fn bytes_verdict(bytes: &[u8]) -> Verdict
+    ensures { λ v. ⌜ v ≡ bytesVerdict (now (bytes .entry)) ⌝ }
+{
+    let n = bytes.len();
+    if 49160 < n {
+        return Verdict::Refused(Cause::TooManyWords);
+    }
+    if n % 4 != 0 {
+        return Verdict::Refused(Cause::BadLength);
+    }
+    Verdict::Accepted
+}
 
 fn wide(b: u8) -> u32
     ensures { λ w. ⌜ (w ≡ b) × (w < 256) ⌝ }

@@ -6,6 +6,7 @@ use protocol::Judged;
 use protocol::Replayed;
 use protocol::Report;
 use protocol::Verdict;
+use results::WORDS_PER_HEAD;
 use results::write_words;
 use sheet::number_heads;
 use sheet::run_entries;
@@ -24,7 +25,7 @@ fn replay_of(judged: Judged, n: u8, heads: &[[u32; 80]; 16], out: &mut [u32]) ->
     requires { ⌜ n ≤ 16 ⌝ }
     ensures { λ r. ⌜ Replays judged n (now (heads .entry)) (now (out .entry)) r (now (out .exit)) ⌝ }
 {
-    if out.len() < 3 * n as usize {
+    if out.len() < WORDS_PER_HEAD * n as usize {
         return Replayed::TurnedBack(Cause::ShortBuffer, 0);
     }
     match judged {

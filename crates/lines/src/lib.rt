@@ -1,13 +1,13 @@
 // The lines that the replay program prints, into a lent buffer: document 01, "The bench sheet, and its neighbours".
 use causes::cause_number;
 use protocol::Cause;
+use results::result_word;
 use text::put;
 use text::put_decimal;
 use text::put_difference;
 use text::put_text;
 ghost use mathlib.Core.Path.{_≡_};
 ghost use mathlib.Core.List.{[], _∷_, _++_};
-ghost use Rattle.protocol.specs.Claim.{resultOf};
 ghost use Rattle.protocol.specs.Program.{decimal, line, headLines, refusedLine};
 ghost use Rattle.lines.specs.Lines.{headLineOf, resultLines};
 ghost use Rattle.text.specs.Written.{written, endOf};
@@ -19,14 +19,6 @@ const TIMES: u32 = 268435456;
 const BLANK: u8 = 32;
 
 const NEWLINE: u8 = 10;
-
-// Word i of head q's result words, 0 past their end.
-fn result_word(results: &[u32], q: u8, i: u8) -> u32
-    ensures { λ w. ⌜ w ≡ resultOf (now (results .entry)) q i ⌝ }
-{
-    let at = 3 * q as usize + i as usize;
-    if at < results.len() { results[at] } else { 0 }
-}
 
 // A field, and the blank behind it.
 fn put_field(x: u64, out: &mut [u8], at: usize) -> usize

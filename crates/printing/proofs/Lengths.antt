@@ -1,23 +1,24 @@
 -- How long what is printed can be.
 -- Main result: `printed-short`, for the bytes of any sheet.
 use mathlib.Core.Path.{_≡_, refl}
-use mathlib.Core.Bool.{not}
 use mathlib.Core.List.{List, [], _∷_}
 use Prim.Native.Nat.{ℕ, zero, suc, _+_, _-_, _*_, _/_, _%_, _^_, _≤_, _<_}
 use native.Mathlib.Omega.{arith}
 use native.Mathlib.Nat.{pow-suc}
-use lib.Dec.{ltb, eqb}
+use lib.Dec.{ltb}
 use lib.IntN.{subℕ}
 use lib.ListN.{length, length-append}
 use borrow.Author.Tests.{ltb-true, ltb-false}
 use Rattle.protocol.specs.declared.Cause.{Cause}
+use Rattle.protocol.specs.declared.Verdict.{Verdict}
+use Rattle.protocol.specs.declared.Verdict.the-variants.{Accepted, Refused}
 use Rattle.protocol.specs.Words.{bits, timeOf, settingAt}
 use Rattle.protocol.specs.Causes.{causeNumber}
 use Rattle.protocol.specs.Run.{Run, stopped, ran, runSheet}
 use Rattle.protocol.specs.Results.{resultWords}
 use Rattle.protocol.specs.Premises.{premiseNumber, judge}
 use Rattle.protocol.specs.Claim.{resultOf, endingInWords}
-use Rattle.protocol.specs.Program.{digits, decimal, signed, line, premisesWord, refusedWord, headLine, headLines, refusedLine, bigEndian, printRun, printSheet, printed}
+use Rattle.protocol.specs.Program.{digits, decimal, signed, line, premisesWord, refusedWord, headLine, headLines, refusedLine, bigEndian, printRun, printSheet, bytesVerdict, printBytes, printed}
 use Rattle.protocol.proofs.Tests.{cond-elim}
 use Rattle.protocol.proofs.Valid.{accepted-sheet}
 
@@ -119,6 +120,8 @@ sheet-short ws = go (runSheet ws) refl
 
 pub printed-short : (bytes : List ℕ) → length (printed bytes) ≤ 1024
 unfolding printed
-printed-short bytes =
-    cond-elim (λ (l : List ℕ). length l ≤ 1024) (ltb 49160 (length bytes)) (λ _. refused-short _ 0)
-    (λ _. cond-elim (λ (l : List ℕ). length l ≤ 1024) (not (eqb (length bytes % 4) 0)) (λ _. refused-short _ 0) (λ _. sheet-short (bigEndian bytes)))
+printed-short bytes = go (bytesVerdict bytes)
+  where
+    go : (v : Verdict) → length (printBytes v bytes) ≤ 1024
+    go (Refused c) = refused-short c 0
+    go Accepted = sheet-short (bigEndian bytes)

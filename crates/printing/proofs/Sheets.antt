@@ -1,11 +1,11 @@
 -- What a replay leaves is what the program prints of a sheet.
--- Main results: `prints-refusal`, `prints-results`, `prints-sheet`, `prints`.
+-- Main results: `prints-refusal`, `prints-results`, `prints-cause`, `prints-sheet`, `prints`.
 use mathlib.Core.Path.{_≡_, refl, sym, _∙_, ap}
 use mathlib.Core.List.{List, _++_}
-use Prim.Native.Nat.{ℕ, zero, suc, _+_, _*_, _%_, _≤_, _<_}
+use Prim.Native.Nat.{ℕ, zero, suc, _+_, _*_, _≤_, _<_}
 use native.Mathlib.Omega.{arith}
 use lib.ListN.{length, getD, drop, List·getD-append}
-use borrow.Author.Tests.{le-ltb, eq-eqb}
+use borrow.Author.Tests.{le-ltb}
 use Rattle.protocol.specs.declared.HeadRecord.{HeadRecord}
 use Rattle.protocol.specs.declared.Setting.{Setting}
 use Rattle.protocol.specs.declared.Cause.{Cause}
@@ -19,9 +19,9 @@ use Rattle.protocol.specs.Run.{History, recordOf, Run, stopped, ran, runOf, aft
 use Rattle.protocol.specs.Results.{wordsFrom, resultWords, Replay, fillAfter, replay}
 use Rattle.protocol.specs.Premises.{premiseNumber, judge}
 use Rattle.protocol.specs.Claim.{endingInWords}
-use Rattle.protocol.specs.Program.{headLine, headLines, refusedLine, bigEndian, printRun, printSheet, printed}
+use Rattle.protocol.specs.Program.{headLine, headLines, refusedLine, bigEndian, printRun, printSheet, bytesVerdict, printed}
 use Rattle.protocol.proofs.Valid.{heads-fit, accepted-sheet}
-use Rattle.protocol.proofs.ResultWords.{filled}
+use Rattle.protocol.proofs.ResultWords.{length-words, filled}
 use Rattle.protocol.proofs.Fits.{sheet-fits}
 use Rattle.text.specs.Written.{written, endOf}
 use Rattle.text.proofs.Texts.{Wrote}
@@ -38,11 +38,6 @@ same-lines : (a b : List ℕ) (n k : ℕ) → ((i : ℕ) → i < 3 * n → getD 
 unfolding headLines
 same-lines a b n zero same l = refl
 same-lines a b n (suc q) same l = rw (same-lines a b n q same (omega arith), same-line a b n q same l) refl
-
-length-words : (r : ℕ → HeadRecord) (q k : ℕ) → length (wordsFrom r q k) ≡ 3 * k
-unfolding wordsFrom
-length-words r q zero = refl
-length-words r q (suc k) = omega (arith, length-words r (suc q) k)
 
 words-first : (g : Setting) (h : History) (rest : List ℕ) (i : ℕ) → i < 3 * g .n → getD (resultWords g h ++ rest) i 0 ≡ getD (resultWords g h) i 0
 unfolding resultWords
@@ -101,9 +96,15 @@ module _ (ws out : List ℕ) (room : 48 ≤ length out) where
 
 -- THE PROGRAM
 
-pub prints-sheet : (bytes ws : List ℕ) → length bytes ≤ 49160 → length bytes % 4 ≡ 0 → ws ≡ bigEndian bytes → printSheet ws ≡ printed bytes
-unfolding printed
-prints-sheet bytes ws few whole is = rw (le-ltb 49160 (length bytes) few, eq-eqb (length bytes % 4) 0 whole, is) refl
+module _ (bytes : List ℕ) (v : Verdict) (says : v ≡ bytesVerdict bytes) where
+  -- causes 1 and 2 of the bytes
+  pub prints-cause : (c : Cause) → v ≡ Refused c → refusedLine c 0 ≡ printed bytes
+  unfolding printed
+  prints-cause c e = rw (← says, e) refl
+
+  pub prints-sheet : v ≡ Accepted → (ws : List ℕ) → ws ≡ bigEndian bytes → printSheet ws ≡ printed bytes
+  unfolding printed
+  prints-sheet e ws is = rw (← says, e, is) refl
 
 -- it starts at the buffer's first byte, and the position that comes back is the number of bytes
 pub prints : (bytes out after text : List ℕ) (r : ℕ) → text ≡ printed bytes → Wrote out after 0 r text

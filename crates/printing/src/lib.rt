@@ -1,12 +1,13 @@
 // What the replay program prints, into a lent buffer: document 01, "The bench sheet, and its neighbours".
+use big_endian::bytes_verdict;
 use big_endian::words_of;
 use judge::replay_and_judge;
 use lines::put_refused;
 use lines::put_results;
-use protocol::Cause;
 use protocol::Judged;
 use protocol::Replayed;
-use words::setting_of;
+use protocol::Verdict;
+use sheet_words::setting_at;
 ghost use mathlib.Core.Path.{_≡_};
 ghost use Prim.Native.Nat.{_≤_};
 ghost use lib.ListN.{length};
@@ -34,7 +35,7 @@ fn print_sheet(sheet: &[u32], out: &mut [u8]) -> usize
     match replayed {
         Replayed::TurnedBack(c, place) => put_refused(c, place, out, 0),
         Replayed::Filled => {
-            let g = setting_of(sheet[0], sheet[1]);
+            let g = setting_at(sheet);
             let judged = report.judged;
             let k = premise_number(judged);
             put_results(&results, g.n, k, out, 0)
@@ -42,17 +43,16 @@ fn print_sheet(sheet: &[u32], out: &mut [u8]) -> usize
     }
 }
 
-// "above 49,160 bytes is cause 1, tested first; a length not a multiple of 4 is cause 2"
+// What is printed of a sheet's bytes.
 pub fn print(bytes: &[u8], out: &mut [u8]) -> usize
     ensures { λ r. ⌜ (now (out .exit) ≡ written (now (out .entry)) 0 (printed (now (bytes .entry)))) × (r ≡ length (printed (now (bytes .entry)))) × (r ≤ 1024) ⌝ }
 {
-    let n = bytes.len();
-    if 49160 < n {
-        return put_refused(Cause::TooManyWords, 0, out, 0);
+    let v = bytes_verdict(bytes);
+    match v {
+        Verdict::Refused(c) => put_refused(c, 0, out, 0),
+        Verdict::Accepted => {
+            let words = words_of(bytes);
+            print_sheet(&words[..bytes.len() / 4], out)
+        }
     }
-    if n % 4 != 0 {
-        return put_refused(Cause::BadLength, 0, out, 0);
-    }
-    let words = words_of(bytes);
-    print_sheet(&words[..n / 4], out)
 }

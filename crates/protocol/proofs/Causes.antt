@@ -8,7 +8,7 @@ use Prim.Native.Nat.{ℕ, suc, _+_, _-_, _*_, _%_, _≤_, _<_}
 use native.Mathlib.Omega.{arith}
 use lib.Dec.{ltb, eqb}
 use lib.ListN.{length, getD}
-use borrow.Author.Tests.{lt-ltb, le-ltb, eqb-true, eq-eqb}
+use borrow.Author.Tests.{lt-ltb, le-ltb, eq-eqb, ne-eqb}
 use Rattle.protocol.specs.Types.{Reading, HeadRecord, Setting, Entry, Input, Action, Stepped, Verdict, Accepted, Refused, TurnedBack}
 use Rattle.protocol.specs.Types.{Cause, TooManyWords, BadLength, BadFirstWord, ShortBuffer, BadEntry, TimeFell, ReadingFell, BadRecord}
 use Rattle.protocol.specs.Words.{mostWords, firstWordFits, secondWordFits, settingAt, entryCount, placeOf, entryAt, entryFitsAt}
@@ -17,8 +17,8 @@ use Rattle.protocol.specs.Step.{refused, takeAction, inputFits, step}
 use Rattle.protocol.specs.Causes.{sheetVerdict}
 use Rattle.protocol.specs.Run.{History, lastTime, stepEntry, Run, stopped, ran, extend, andThen, runOf}
 use Rattle.protocol.specs.Results.{Replay, wordsPerHead, fill, fillAfter, replay}
-use Rattle.protocol.specs.Program.{refusedLine, printed}
-use Rattle.protocol.proofs.Tests.{absurd-bool, cond-elim, not-false}
+use Rattle.protocol.specs.Program.{refusedLine, bytesVerdict, printed}
+use Rattle.protocol.proofs.Tests.{absurd-bool, cond-elim}
 
 whole-length : (ws : List ℕ) (k : ℕ) → length ws ≡ 2 + 3 * k → (ltb (length ws) 2 || not (eqb ((length ws - 2) % 3) 0)) ≡ false
 whole-length ws k e = rw (le-ltb (length ws) 2 (omega arith), eq-eqb ((length ws - 2) % 3) 0 (omega arith)) refl
@@ -107,13 +107,9 @@ entry-before-reading r i e h = rw (e, h) refl
 
 -- the program: "above 49,160 bytes is cause 1, tested first; a length not a multiple of 4 is cause 2"
 pub too-many-bytes : (bytes : List ℕ) → 49160 < length bytes → printed bytes ≡ refusedLine TooManyWords 0
-unfolding printed
-too-many-bytes bytes h =
-    cond-elim (λ l. l ≡ refusedLine TooManyWords 0) (ltb 49160 (length bytes)) (λ _. refl) (λ t. absurd-bool (lt-ltb 49160 (length bytes) h) t)
+unfolding printed bytesVerdict
+too-many-bytes bytes h = rw (lt-ltb 49160 (length bytes) h) refl
 
 pub part-of-a-word : (bytes : List ℕ) → length bytes ≤ 49160 → length bytes % 4 ≢ 0 → printed bytes ≡ refusedLine BadLength 0
-unfolding printed
-part-of-a-word bytes h n =
-    cond-elim (λ l. l ≡ refusedLine BadLength 0) (ltb 49160 (length bytes)) (λ t. absurd-bool t (le-ltb 49160 (length bytes) h))
-    (λ _. cond-elim (λ l. l ≡ refusedLine BadLength 0) (not (eqb (length bytes % 4) 0)) (λ _. refl)
-    (λ t. absurd (n (eqb-true (length bytes % 4) 0 (not-false t)))))
+unfolding printed bytesVerdict
+part-of-a-word bytes h n = rw (le-ltb 49160 (length bytes) h, ne-eqb (length bytes % 4) 0 n) refl

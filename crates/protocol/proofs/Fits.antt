@@ -1,5 +1,5 @@
 -- What a sheet's words say, and the rules that whatever passes causes 1 to 4 and 6 keeps, told in numbers.
--- Main results: `setting-of-fields`, `entry-of-fields`, `sheet-fits`, `correct-heads-below-n`, `entry-fits`, `input-fits`.
+-- Main results: `setting-of-fields`, `entry-of-fields`, `not-accepted`, `sheet-fits`, `correct-heads-below-n`, `entry-fits`, `input-fits`.
 use mathlib.Core.Path.{_≡_, refl, ap}
 use mathlib.Core.Bool.{Bool, true, not, _&&_, _||_}
 use mathlib.Core.List.{List, _∷_}
@@ -15,7 +15,7 @@ use Rattle.protocol.specs.Types.{Setting, Input, Cause, Verdict, Accepte
 use Rattle.protocol.specs.Words.{mostWords, bits, kindOf, timeOf, settingOf, isCorrect, headsFit, settingAt, firstWordFits, secondWordFits, hasSerial, hasSender, zeroWhereUnused, entryOf, entryFits, entryCount}
 use Rattle.protocol.specs.Step.{inputFits}
 use Rattle.protocol.specs.Causes.{sheetVerdict}
-use Rattle.protocol.specs.Program.{bigEndian}
+use Rattle.protocol.specs.Program.{bigEndian, bytesVerdict}
 use Rattle.protocol.proofs.Tests.{absurd-bool, cases, cond-elim, not-false, and-left, and-right, parts, or-left, or-right, or-cases}
 
 -- "Words of a run sheet": the fields of a word are read back
@@ -71,16 +71,16 @@ heads-in-word : (a b : ℕ) → firstWordFits a ≡ true → headsFit (settingOf
 unfolding firstWordFits settingOf
 heads-in-word a b e = and-left (headsFit (bits a 27 20) (bits a 19 16)) _ (and-right (eqb (kindOf a) 1) _ e)
 
-refused-not-accepted : {A : Type 0} (c : Cause) → Refused c ≡ Accepted → A
-refused-not-accepted c e = absurd (let z : _≡_ {A = ℕ} 0 1 = cc in omega arith)
+pub not-accepted : {A : Type 0} (c : Cause) → Refused c ≡ Accepted → A
+not-accepted c e = absurd (let z : _≡_ {A = ℕ} 0 1 = cc in omega arith)
 
 pub sheet-fits : (ws : List ℕ) → sheetVerdict ws ≡ Accepted → FittingSheet ws
 unfolding sheetVerdict
 sheet-fits ws =
-    cond-elim Fits (ltb mostWords (length ws)) (λ _. refused-not-accepted _)
-    (λ few. cond-elim Fits (ltb (length ws) 2 || not (eqb ((length ws - 2) % 3) 0)) (λ _. refused-not-accepted _)
-    (λ whole. cond-elim Fits (not (firstWordFits (getD ws 0 0))) (λ _. refused-not-accepted _)
-    (λ first. cond-elim Fits (not (secondWordFits (getD ws 1 0))) (λ _. refused-not-accepted _)
+    cond-elim Fits (ltb mostWords (length ws)) (λ _. not-accepted _)
+    (λ few. cond-elim Fits (ltb (length ws) 2 || not (eqb ((length ws - 2) % 3) 0)) (λ _. not-accepted _)
+    (λ whole. cond-elim Fits (not (firstWordFits (getD ws 0 0))) (λ _. not-accepted _)
+    (λ first. cond-elim Fits (not (secondWordFits (getD ws 1 0))) (λ _. not-accepted _)
     (λ second _.
     let most = ltb-false mostWords (length ws) few in
     let two = ltb-false (length ws) 2 (or-left (ltb (length ws) 2) _ whole) in
@@ -96,6 +96,13 @@ sheet-fits ws =
   where
     Fits : Verdict → Type 0
     Fits v = v ≡ Accepted → FittingSheet ws
+
+-- causes 1 and 2 of a sheet's bytes
+pub few-bytes : (bytes : List ℕ) → bytesVerdict bytes ≡ Accepted → length bytes ≤ 49160
+unfolding bytesVerdict
+few-bytes bytes =
+    cond-elim (λ (v : Verdict). v ≡ Accepted → length bytes ≤ 49160) (ltb 49160 (length bytes)) (λ _. not-accepted _)
+    (λ few _. ltb-false 49160 (length bytes) few)
 
 -- cause 3: no "correct bit at n or above"
 pub correct-heads-below-n : (a b q : ℕ) → firstWordFits a ≡ true → isCorrect (settingOf a b) q ≡ true → q < settingOf a b .n

@@ -62,6 +62,11 @@ says q r l i two =
 
 -- WHERE A HEAD'S WORDS STAND
 
+pub length-words : (r : ℕ → HeadRecord) (q k : ℕ) → length (wordsFrom r q k) ≡ wordsPerHead * k
+unfolding wordsFrom
+length-words r q zero = refl
+length-words r q (suc k) = omega (arith, length-words r (suc q) k)
+
 among-three : (a b c : ℕ) (l : List ℕ) (j : ℕ) → j < 3 → getD (a ∷ b ∷ c ∷ l) j 0 ≡ getD (a ∷ b ∷ c ∷ []) j 0
 among-three a b c l zero h = refl
 among-three a b c l (suc zero) h = refl

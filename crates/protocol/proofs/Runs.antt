@@ -17,6 +17,7 @@ use Rattle.protocol.specs.Run.{Event, History, recordOf, isDeliveredBy, 
 use Rattle.protocol.proofs.Tests.{absurd-bool, cases, cond-elim, eqb-same}
 use Rattle.protocol.proofs.Effects.{Kind, votes, adjusts, phaseOf, delivery, number, named, passedOver, prepared, Sending, nothing, voting, adjusting, send, sendingOf, prepared-sent, phase-last}
 use Rattle.protocol.proofs.Effects as Effects
+use Rattle.protocol.proofs.Fits.{not-accepted}
 use Rattle.protocol.proofs.Valid.{baseOf, Taken, Valid, start, more, record-other, by-head, of-effect, frame-fits, started-took}
 use Rattle.protocol.proofs.Phases.{orNumber, names, sent, names-other, sent-other, Turn, sends-none, sends-one, turn, serial-below}
 
@@ -47,17 +48,14 @@ pub does-effect : (g : Setting) (s : History) (fits : Bool) (e : Entry) → step
     → stepEntry g s fits e ≡ effect (withLast (recordOf g s (e .head)) (e .reading)) (actionOf (inputOf e (frameOf s e)))
 unfolding stepEntry takeAction
 does-effect g s fits e =
-    cond-elim Does (not fits) (λ _. refusal _)
-    (λ _. cond-elim Does (ltb (e .time .0) (lastTime s)) (λ _. refusal _)
-    (λ _. cond-elim Does (ltb (e .reading .0) (recordOf g s (e .head) .last .0)) (λ _. refusal _)
+    cond-elim Does (not fits) (λ _. not-accepted _)
+    (λ _. cond-elim Does (ltb (e .time .0) (lastTime s)) (λ _. not-accepted _)
+    (λ _. cond-elim Does (ltb (e .reading .0) (recordOf g s (e .head) .last .0)) (λ _. not-accepted _)
     (λ _. cond-elim Does (not (not (hasSender (e .action)) || isFrame (frameOf s e)) || isClosed (recordOf g s (e .head)) (actionOf (inputOf e (frameOf s e))))
-    (λ _. refusal _) (λ _ _. refl))))
+    (λ _. not-accepted _) (λ _ _. refl))))
   where
     Does : Stepped → Type 0
     Does t = t .verdict ≡ Accepted → t ≡ effect (withLast (recordOf g s (e .head)) (e .reading)) (actionOf (inputOf e (frameOf s e)))
-
-    refusal : {A : Type 0} (c : Cause) → Refused c ≡ Accepted → A
-    refusal c u = absurd (let z : _≡_ {A = ℕ} 0 1 = cc in omega arith)
 
 -- A START SENT, BY THE MARK
 

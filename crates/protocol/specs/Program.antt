@@ -5,7 +5,7 @@ use Prim.Native.Nat.{ℕ, zero, suc, _+_, _*_, _/_, _%_}
 use lib.Dec.{ltb, eqb}
 use lib.ListN.{length}
 use lib.IntN.{ℤ, pos, negsuc}
-use Rattle.protocol.specs.Types.{Setting, Cause, TooManyWords, BadLength, Judged}
+use Rattle.protocol.specs.Types.{Setting, Cause, TooManyWords, BadLength, Verdict, Accepted, Refused, Judged}
 use Rattle.protocol.specs.Words.{timeOf, settingAt}
 use Rattle.protocol.specs.Causes.{causeNumber}
 use Rattle.protocol.specs.Run.{Run, stopped, ran, runSheet}
@@ -70,7 +70,13 @@ unfoldable pub printSheet : List ℕ → List ℕ
 printSheet ws = printRun (settingAt ws) (judge ws) (runSheet ws)
 
 -- "above 49,160 bytes is cause 1, tested first; a length not a multiple of 4 is cause 2"
+unfoldable pub bytesVerdict : List ℕ → Verdict
+bytesVerdict bytes =
+    cond (ltb 49160 (length bytes)) (Refused TooManyWords) (cond (not (eqb (length bytes % 4) 0)) (Refused BadLength) Accepted)
+
+abbrev pub printBytes : Verdict → List ℕ → List ℕ
+printBytes Accepted bytes = printSheet (bigEndian bytes)
+printBytes (Refused c) bytes = refusedLine c 0
+
 unfoldable pub printed : List ℕ → List ℕ
-printed bytes =
-    cond (ltb 49160 (length bytes)) (refusedLine TooManyWords 0)
-    (cond (not (eqb (length bytes % 4) 0)) (refusedLine BadLength 0) (printSheet (bigEndian bytes)))
+printed bytes = printBytes (bytesVerdict bytes) bytes

@@ -18,7 +18,7 @@ use Rattle.protocol.proofs.Tests.{cond-elim}
 use Rattle.protocol.proofs.Tables.{table-at}
 use Rattle.protocol.proofs.Ranges as Ranges
 use Rattle.protocol.proofs.Ranges.{in-range}
-use Rattle.protocol.proofs.ResultWords.{number-below, start-below}
+use Rattle.protocol.proofs.ResultWords.{length-words, number-below, start-below}
 use Rattle.head_result.specs.Result.{IsResult}
 use Rattle.results.specs.declared.HeadWords.{HeadWords}
 use Rattle.results.specs.Written.{InRange, AreWords, Writes}
@@ -76,11 +76,6 @@ module _ (q : ℕ) (row x : List ℕ) (w : ℕ) (low : q < 16) (result : IsResul
   start-is = rw (number-is 4, low-time _ (adopted-below r (readingOr0 (chosenStart r)) (2 ^ 28) (lit< tt) (start-below r (r .vote .choice) facts (facts .phase votes)))) refl
 
 -- ONE HEAD MORE
-
-length-words : (f : ℕ → HeadRecord) (q k : ℕ) → length (wordsFrom f q k) ≡ 3 * k
-unfolding wordsFrom
-length-words f q zero = refl
-length-words f q (suc k) = omega (arith, length-words f (suc q) k)
 
 words-more : (f : ℕ → HeadRecord) (q k : ℕ) → wordsFrom f q (suc k) ≡ wordsFrom f q k ++ headWords (q + k) (f (q + k))
 unfolding wordsFrom

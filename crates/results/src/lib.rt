@@ -1,8 +1,9 @@
-// The heads' result words, written from their rows into a lent buffer: document 01, "Result words".
+// The heads' result words, written from their rows into a lent buffer and read back: document 01, "Result words".
 use head_result::result_of;
 ghost use mathlib.Core.Path.{_≡_};
 ghost use Prim.Native.Nat.{_+_, _*_, _%_, _^_, _≤_, _<_};
 ghost use lib.ListN.{length};
+ghost use Rattle.protocol.specs.Claim.{resultOf};
 ghost use Rattle.protocol.specs.Results.{wordsPerHead};
 ghost use Rattle.results.specs.Written.{AreWords, Writes};
 
@@ -55,10 +56,18 @@ pub fn write_words(out: &mut [u32], n: u8, heads: &[[u32; 80]; 16])
     while q < n {
         let i = q as usize;
         let w = words_of(q, &heads[i]);
-        let at = 3 * i;
+        let at = WORDS_PER_HEAD * i;
         out[at] = w.outcome;
         out[at + 1] = w.adjustment;
         out[at + 2] = w.start;
         q += 1;
     }
+}
+
+// Word i of head q's result words, 0 past their end.
+pub fn result_word(results: &[u32], q: u8, i: u8) -> u32
+    ensures { λ w. ⌜ w ≡ resultOf (now (results .entry)) q i ⌝ }
+{
+    let at = WORDS_PER_HEAD * q as usize + i as usize;
+    if at < results.len() { results[at] } else { 0 }
 }

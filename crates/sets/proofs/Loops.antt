@@ -23,11 +23,5 @@ asked-or false b = refl
 pub asked : (a b : Bool) → a ≡ true → (a ⇒ b) ≡ b
 asked a b e = rw e refl
 
-pub asked-and : (a b c : Bool) → a ≡ true → b ≡ true → (a ⇒ (b && c)) ≡ c
-asked-and a b c e f = rw (e, f) refl
-
-pub asked-fails : (a b c : Bool) → a ≡ true → b ≡ false → (a ⇒ (b && c)) ≡ false
-asked-fails a b c e f = rw (e, f) refl
-
 pub unasked : (a b : Bool) → a ≡ false → (a ⇒ b) ≡ true
 unasked a b e = rw e refl

@@ -1,18 +1,12 @@
 // Sets of heads, as document 01's first word has one: "one bit per correct head, bit 0 for head 0".
 ghost use mathlib.Core.Path.{_≡_};
-ghost use Rattle.sets.specs.Sets.{withHead, hasHead, hasAll};
+ghost use Rattle.sets.specs.Sets.{withHead, hasAll};
 
 // The set with head q in it.
 pub fn with_head(m: u16, q: u8) -> u16
     ensures { λ r. ⌜ r ≡ withHead m q ⌝ }
 {
     m | 1 << (q % 16)
-}
-
-pub fn has_head(m: u16, q: u8) -> bool
-    ensures { λ b. ⌜ b ≡ hasHead m q ⌝ }
-{
-    (m >> (q % 16)) % 2 == 1
 }
 
 // Whether the heads that are asked for are all in the set.

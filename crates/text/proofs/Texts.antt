@@ -1,12 +1,12 @@
 -- A text in a buffer, and a text behind a text.
--- Main results: `one-byte`, `no-room`, `then`, `next-byte`, `length-written`, `all-in`, `front`.
+-- Main results: `one-byte`, `no-room`, `then`, `next-byte`, `length-written`, `all-in`.
 use mathlib.Core.Path.{_≡_, refl, sym, _∙_, ap}
 use mathlib.Core.List.{List, [], _∷_, _++_}
 use Prim.Native.Nat.{ℕ, suc, _+_, _^_, _≤_, _<_}
 use native.Mathlib.Numerals.{add-one}
 use native.Mathlib.Omega.{arith}
 use lib.ListN.{length, getD, set, take, drop, length-set, length-append}
-use lib.Seq.{take-suc, take-append-seam, set-out, sets, sets-eq}
+use lib.Seq.{take-suc, set-out, sets, sets-eq}
 use lib.Dec.{ltb}
 use borrow.Author.Tests.{ltb-true, ltb-false}
 use Rattle.protocol.proofs.Tests.{cases}
@@ -82,7 +82,3 @@ stores out at (b ∷ text) = stores (set out at b) (suc at) text
 -- where there is room the text stands in the buffer whole, between what stood before and behind it
 pub all-in : (out : List ℕ) (at : ℕ) (text : List ℕ) → at + length text ≤ length out → written out at text ≡ take at out ++ text ++ drop (at + length text) out
 all-in out at text h = stores out at text ∙ sets-eq text out at h
-
--- so a text from the first byte on is the buffer's front
-pub front : (out text : List ℕ) → length text ≤ length out → take (length text) (written out 0 text) ≡ text
-front out text h = rw (all-in out 0 text (omega arith)) (take-append-seam text (drop (0 + length text) out))

@@ -1,6 +1,7 @@
 // Prints, after every entry of a run sheet: its index, real time, head and action, then the head's candidate, adjuster
 // and adjustment (- for none) and outcome; or `refused`, the cause's number and the place, at the entry that is refused.
 // The sheet comes on standard input; it has at most 49,160 bytes, so one that fills the buffer is too long.
+use big_endian::bytes_verdict;
 use big_endian::words_of;
 use causes::cause_number;
 use libc::STDIN_FILENO;
@@ -100,18 +101,14 @@ fn print_sheet(sheet: &[u32]) {
     }
 }
 
-// "above 49,160 bytes is cause 1, tested first; a length not a multiple of 4 is cause 2"
 fn trace_bytes(bytes: &[u8]) {
-    let n = bytes.len();
-    if 49160 < n {
-        print_refused(Cause::TooManyWords, 0);
-        return;
-    }
-    if n % 4 == 0 {
-        let words = words_of(bytes);
-        print_sheet(&words[..n / 4]);
-    } else {
-        print_refused(Cause::BadLength, 0);
+    let v = bytes_verdict(bytes);
+    match v {
+        Verdict::Refused(c) => print_refused(c, 0),
+        Verdict::Accepted => {
+            let words = words_of(bytes);
+            print_sheet(&words[..bytes.len() / 4]);
+        }
     }
 }
 

@@ -23,14 +23,8 @@ put-refused-requires c κs = search needs
 enum-told : tie.Need-enum-told
 enum-told c = search needs
 
-shared-slice-read-setting-of : tie.Need-shared-slice-read-setting-of
-shared-slice-read-setting-of c = let h = has-setting _ (replicate 48 0) (omega arith) _ (c .before .before .before .before .replay-and-judge .ensures .0) (c .before .enum-told .given .1) in search needs
-
-shared-slice-read-setting-of-2 : tie.Need-shared-slice-read-setting-of-2
-shared-slice-read-setting-of-2 c = let h = has-setting _ (replicate 48 0) (omega arith) _ (c .before .before .before .before .before .replay-and-judge .ensures .0) (c .before .before .enum-told .given .1) in search needs
-
-setting-of-requires : tie.Need-setting-of-requires
-setting-of-requires c κs = search needs
+setting-at-requires : tie.Need-setting-at-requires
+setting-at-requires c κs = let h = has-setting _ (replicate 48 0) (omega arith) _ (c .before .before .before .replay-and-judge .ensures .0) (c .enum-told .given .1) in search needs
 
 premise-number-requires : tie.Need-premise-number-requires
 premise-number-requires c κs = search needs
@@ -52,8 +46,8 @@ same-length-2 c = search needs
 
 returns-2 : tie.Need-returns-2
 returns-2 c =
-    let e = c .before .before .before .before .before .before .before .before .before .before .before .before .replay-and-judge .ensures in
-    rw (prints-results _ (replicate 48 0) (omega arith) _ _ _ _ (e .0) (e .2) (c .before .before .before .before .before .before .before .before .before .enum-told .given .1) (ap (λ (g : Setting). g .n) (c .before .before .before .before .before .before .setting-of .ensures)) (c .before .before .before .before .before .premise-number .ensures ∙ ap premiseNumber (e .1))) at (c .before .before .put-results .ensures)
+    let e = c .before .before .before .before .before .before .before .before .before .before .replay-and-judge .ensures in
+    rw (prints-results _ (replicate 48 0) (omega arith) _ _ _ _ (e .0) (e .2) (c .before .before .before .before .before .before .before .enum-told .given .1) (ap (λ (g : Setting). g .n) (c .before .before .before .before .before .before .setting-at .ensures)) (c .before .before .before .before .before .premise-number .ensures ∙ ap premiseNumber (e .1))) at (c .before .before .put-results .ensures)
 
 pub print-sheet-spec : {M : Type 1} → statement M
 print-sheet-spec =
@@ -64,9 +58,7 @@ print-sheet-spec =
     enum-known-replayed
     put-refused-requires
     enum-told
-    shared-slice-read-setting-of
-    shared-slice-read-setting-of-2
-    setting-of-requires
+    setting-at-requires
     premise-number-requires
     slice-aggregate-put-results
     put-results-requires

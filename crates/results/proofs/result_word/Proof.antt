@@ -2,8 +2,8 @@
 use mathlib.Core.Path.{sym}
 use lib.ListN.{List·getD-eq-default}
 use borrow.Author.Needs.{needs}
-use Rattle.lines.proofs.result_word.Statement.{statement}
-use Rattle.lines.proofs.result_word.Tie as tie
+use Rattle.results.proofs.result_word.Statement.{statement}
+use Rattle.results.proofs.result_word.Tie as tie
 
 mul-at : tie.Need-mul-at
 mul-at c = search needs

@@ -1,2 +1,0 @@
--- The numbers of the actions.
-pub mod Numbers
