@@ -1,25 +1,23 @@
 -- A frame's numbers for C from those that a row has, and the correction by a result's numbers.
 -- Main results: `vote-of-none`, `vote-of-reading`, `other-frame`; `adopted-correction`, `no-correction`.
 use mathlib.Core.Path.{_≡_, refl, sym, _∙_, ap}
-use mathlib.Core.Bool.{Bool, true, false, cond}
+use mathlib.Core.Bool.{true}
 use mathlib.Core.List.{List, [], _∷_}
 use mathlib.Core.Logic.{_≢_}
 use Prim.Native.Nat.{ℕ, _+_, _-_, _^_, _<_}
 use native.Mathlib.Omega.{arith}
-use lib.Dec.{ltb, eqb}
+use lib.Dec.{eqb}
 use lib.ListN.{getD}
 use lib.IntN.{ℤ, pos, subℕ}
 use borrow.Author.Tests.{lt-ltb, eq-eqb, ne-eqb}
 use Rattle.protocol.specs.declared.Reading.{Reading}
-use Rattle.protocol.specs.declared.OptReading.{OptReading}
 use Rattle.protocol.specs.declared.OptReading.the-variants.{NoReading, SomeReading}
 use Rattle.protocol.specs.declared.HeadRecord.{HeadRecord}
-use Rattle.protocol.specs.declared.Frame.{Frame}
 use Rattle.protocol.specs.declared.Frame.the-variants.{NoFrame, Start, Vote, Adjust}
 use Rattle.protocol.specs.declared.Sent.{Sent}
-use Rattle.protocol.specs.Record.{readingOr0, outcome, correction}
-use Rattle.protocol.specs.Row.{readingPlus1, sentOf}
-use Rattle.protocol.specs.Board.{frameNumbers, resultNumbers, correctionIfAdopted}
+use Rattle.protocol.specs.Record.{outcome, correction}
+use Rattle.protocol.specs.Row.{readingPlus1}
+use Rattle.protocol.specs.Board.{resultNumbers}
 use Rattle.board.specs.Numbers.{AreNumbers, IsCorrection}
 
 -- FRAMES

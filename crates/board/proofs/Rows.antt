@@ -2,9 +2,9 @@
 -- Main results: `action-taken`, `action-refused`; `result-read`, `not-in-range`; `correction-read`, `no-correction-read`;
 -- `fresh-made`, `fresh-refused`.
 use mathlib.Core.Path.{_≡_, refl, sym, _∙_, ap, subst}
-use mathlib.Core.Bool.{Bool, true, false, cond, _&&_}
+use mathlib.Core.Bool.{Bool, true, false, cond}
 use mathlib.Core.List.{List, [], _∷_}
-use Prim.Native.Nat.{ℕ, _^_, _≤_, _<_}
+use Prim.Native.Nat.{ℕ, _^_, _<_}
 use native.Mathlib.Omega.{arith}
 use lib.ListN.{length, getD}
 use lib.IntN.{ℤ, pos}
@@ -18,7 +18,7 @@ use Rattle.protocol.specs.declared.Verdict.{Verdict}
 use Rattle.protocol.specs.declared.Verdict.the-variants.{Accepted, Refused}
 use Rattle.protocol.specs.declared.Frame.the-variants.{NoFrame}
 use Rattle.protocol.specs.Record.{reading, readingOr0, fresh, recordInRange}
-use Rattle.protocol.specs.Step.{effect, withLast, actionOf, step, refused, takeAction}
+use Rattle.protocol.specs.Step.{effect, withLast, actionOf, step, refused}
 use Rattle.protocol.specs.Run.{carriedReading}
 use Rattle.protocol.specs.Causes.{causeNumber}
 use Rattle.protocol.specs.Row.{rowOf, recordIn, rowFits, rowInRange, sentOf}
@@ -26,7 +26,6 @@ use Rattle.protocol.specs.Board.{verdictNumber, freshVerdict, freshRow, rowStep
 use Rattle.protocol.proofs.Tests.{and-right}
 use Rattle.protocol.proofs.Fits.{input-fits}
 use Rattle.protocol.proofs.Laws.{step-answers}
-use Rattle.protocol.proofs.Valid.{passed}
 use Rattle.protocol.proofs.Ranges.{InRange, FrameInRange, in-range, input-in-range, take-in-range}
 use Rattle.head_row.specs.Promises.{Acts}
 use Rattle.head_row.proofs.Fitting.{fits}

@@ -3,7 +3,7 @@
 -- Main results: `lead-is`, `lag-is`; that no operation on the way leaves 64 bits, `lead-fits`, `lag-fits` and the like.
 use mathlib.Core.Path.{_≡_, sym, _∙_, ap, ap₂, subst}
 use mathlib.Core.Bool.{Bool, cond}
-use Prim.Native.Nat.{ℕ, zero, suc, _+_, _-_, _*_, _<_, _≤_, _^_}
+use Prim.Native.Nat.{ℕ, suc, _+_, _-_, _*_, _<_, _≤_, _^_}
 use native.Mathlib.Nat.{mul-add, add-mul, mul-le-mul-right}
 use native.Mathlib.Omega.{arith}
 use lib.IntN.{ℤ, pos, negsuc, subℕ, _-ℤ_, _*ℤ_}
@@ -11,7 +11,7 @@ use mir.Syntax.{w64}
 use mir.Val.{SFits, toZ, ofZ}
 use mir.Facts.{toZ-pos, toZ-ofZ}
 use borrow.Author.Tests.{lt-ltb, le-ltb}
-use Rattle.protocol.proofs.Signed.{Difference, up, down, difference-of, difference-pos, difference-neg, difference-sub}
+use Rattle.protocol.proofs.Signed.{Difference, up, down, difference-pos, difference-neg, difference-sub}
 
 -- what a word stands for
 abbrev word : ℤ → ℤ

@@ -1,7 +1,7 @@
 -- How a replay ends after the pass over the entries: turned back by cause 5, stopped in the run, or with the result words.
 -- Main results: `short-buffer`, `stopped-run`, `filled-run`; `turned-back`, `whole-run`.
 use mathlib.Core.Path.{_≡_, refl, sym, _∙_, ap, subst}
-use mathlib.Core.Bool.{Bool, true, false, cond}
+use mathlib.Core.Bool.{Bool, true, false}
 use mathlib.Core.List.{List, [], _∷_, _++_}
 use Prim.Native.Nat.{ℕ, suc, _*_, _≤_, _<_}
 use native.Mathlib.Omega.{arith}
@@ -19,8 +19,8 @@ use Rattle.protocol.specs.declared.Judged.{Judged}
 use Rattle.protocol.specs.declared.Judged.the-variants.{Kept, Broken, Unjudged}
 use Rattle.protocol.specs.Words.{headsFit, settingAt, entryCount}
 use Rattle.protocol.specs.Causes.{sheetVerdict}
-use Rattle.protocol.specs.Run.{History, recordOf, Run, stopped, ran, runOf, runSheet}
-use Rattle.protocol.specs.Results.{Replay, wordsFrom, wordsPerHead, resultWords, fill, replay}
+use Rattle.protocol.specs.Run.{History, recordOf, stopped, ran, runOf, runSheet}
+use Rattle.protocol.specs.Results.{Replay, wordsFrom, wordsPerHead, resultWords, replay}
 use Rattle.protocol.specs.Premises.{premises, firstBroken, judgeRun, judge}
 use Rattle.protocol.proofs.Fits.{sheet-fits}
 use Rattle.protocol.proofs.Valid.{valid-run, heads-fit, fixed}

@@ -1,5 +1,5 @@
 -- What a board written in C gives and gets: the head's row in its memory, and all else in numbers too.
-use mathlib.Core.Bool.{Bool, cond, not}
+use mathlib.Core.Bool.{cond, not}
 use mathlib.Core.List.{List, [], _∷_}
 use Prim.Native.Nat.{ℕ}
 use lib.Dec.{ltb, eqb}

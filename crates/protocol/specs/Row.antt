@@ -3,12 +3,12 @@
 use mathlib.Core.Bool.{Bool, cond, _&&_}
 use mathlib.Core.List.{List, [], _∷_, _++_, map}
 use Prim.Native.Nat.{ℕ, _+_, _-_, _^_}
-use lib.Dec.{ltb, eqb}
+use lib.Dec.{eqb}
 use lib.ListN.{getD}
 use Rattle.protocol.specs.Base.{table}
 use Rattle.protocol.specs.Types.{OptReading, NoReading, SomeReading, OptNumber, NoNumber, SomeNumber, Sender, HeadRecord, Sent, Frame, NoFrame, Start, Vote, Adjust}
 use Rattle.protocol.specs.Words.{isTime}
-use Rattle.protocol.specs.Record.{isNumber, reading, marksNumber, recordInRange}
+use Rattle.protocol.specs.Record.{reading, marksNumber, recordInRange}
 use Rattle.protocol.specs.Step.{hasMark}
 
 abbrev pub numberPlus1 : OptNumber → ℕ

@@ -1,6 +1,6 @@
 -- Sets of heads as numbers of sixteen bits: "one bit per correct head, bit 0 for head 0".
 use mathlib.Core.Bool.{Bool, cond}
-use Prim.Native.Nat.{ℕ, zero, suc, _+_, _*_, _/_, _%_, _^_}
+use Prim.Native.Nat.{ℕ, zero, suc, _+_, _*_, _%_, _^_}
 use lib.Dec.{eqb}
 use lib.Bits.{bitAnd, bitOr}
 

@@ -1,7 +1,7 @@
 -- Sixteen fresh rows of head 0 become those of the sixteen heads, one after the other.
 -- Main results: `none-numbered`, `one-numbered`, `all-numbered`.
 use mathlib.Core.Path.{_≡_, refl, sym, _∙_, ap}
-use mathlib.Core.Bool.{Bool, true, false, cond}
+use mathlib.Core.Bool.{Bool, cond}
 use mathlib.Core.List.{List, []}
 use Prim.Native.Nat.{ℕ, _+_, _≤_, _<_}
 use native.Mathlib.Omega.{arith}
@@ -13,7 +13,6 @@ use Rattle.protocol.specs.Record.{fresh, marksNumber}
 use Rattle.protocol.specs.Row.{rowOf}
 use Rattle.protocol.specs.Run.{recordOf}
 use Rattle.protocol.proofs.Tables.{is-table, fill-over}
-use Rattle.places.specs.Arrays.{headRows}
 use Rattle.sheet.specs.Pass.{FreshBut}
 
 abbrev freshRow : Setting → ℕ → List ℕ

@@ -1,13 +1,13 @@
 -- The pass over the entries: what its arrays say of the history so far, one entry on, and at the end.
 -- Main results: `first-keeps`, `pass-refused`, `found-index`, `keeps-next`, `judged-at`, `pass-ends`.
 use mathlib.Core.Path.{_≡_, refl, sym, _∙_, ap, subst}
-use mathlib.Core.Bool.{Bool, true, false, cond, not, _&&_}
+use mathlib.Core.Bool.{Bool, true, false, not, _&&_}
 use mathlib.Core.List.{List, [], _∷_}
 use Prim.Native.Nat.{ℕ, suc, _+_, _*_, _-_, _^_, _≤_, _<_}
 use native.Mathlib.Numerals.{add-one}
 use native.Mathlib.Omega.{arith}
 use lib.Dec.{eqb}
-use lib.ListN.{getD, set, replicate, getD-replicate}
+use lib.ListN.{getD, replicate, getD-replicate}
 use lib.IntN.{ℤ, pos}
 use Rattle.protocol.specs.declared.Setting.{Setting}
 use Rattle.protocol.specs.declared.Entry.{Entry}
@@ -25,7 +25,7 @@ use Rattle.protocol.proofs.Runs.{goes-on, stops, stays-stopped}
 use Rattle.places.specs.Arrays.{headRows, choicesOf, carriedOf, answerAt, eventAt, Stands, Carries}
 use Rattle.judge_starts.specs.Starts.{startTimes}
 use Rattle.judge_closes.specs.Closes.{receiverSets, flag, foundOf}
-use Rattle.judge_entry.specs.Watched.{leastOf, leads, lags, Watched, Differs}
+use Rattle.judge_entry.specs.Watched.{leastOf, Watched, Differs}
 use Rattle.sheet.specs.Pass.{Passes, JudgedAt}
 
 same-history : {s h : History} → ran s ≡ ran h → s ≡ h

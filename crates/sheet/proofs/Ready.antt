@@ -3,7 +3,7 @@
 use mathlib.Core.Path.{_≡_, refl, sym, _∙_, ap}
 use mathlib.Core.Bool.{true}
 use mathlib.Core.List.{List, []}
-use Prim.Native.Nat.{ℕ, _+_, _*_, _≤_, _<_, min}
+use Prim.Native.Nat.{ℕ, _+_, _*_, _≤_, min}
 use native.Mathlib.Omega.{arith}
 use lib.ListN.{length, getD, replicate}
 use Rattle.protocol.specs.declared.Setting.{Setting}
@@ -16,7 +16,7 @@ use Rattle.protocol.specs.Words.{settingAt, firstWordFits, entryCount}
 use Rattle.protocol.specs.Record.{fresh}
 use Rattle.protocol.specs.Row.{rowOf}
 use Rattle.protocol.specs.Causes.{sheetVerdict}
-use Rattle.protocol.specs.Run.{Run, runOf, runFirst}
+use Rattle.protocol.specs.Run.{runOf, runFirst}
 use Rattle.protocol.proofs.Fits.{sheet-fits}
 use Rattle.places.specs.Arrays.{headRows}
 use Rattle.sheet.specs.Pass.{Passes, FreshBut}

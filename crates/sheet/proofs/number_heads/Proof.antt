@@ -1,6 +1,5 @@
 use Prim.Native.Nat.{_-_, _≤_}
 use Rattle.sheet.proofs.Fresh.{Numbered, none-numbered, one-numbered, all-numbered}
-use native.Mathlib.Omega.{arith}
 use borrow.Author.Needs.{needs}
 use Rattle.sheet.proofs.number_heads.Statement.{statement}
 use Rattle.sheet.proofs.number_heads.Tie as tie

@@ -1,5 +1,4 @@
 use borrow.Author.Tests.{lt-ltb, le-ltb}
-use borrow.Author.Needs.{needs}
 use Rattle.board.proofs.numbers.action_in.Statement.{statement}
 use Rattle.board.proofs.numbers.action_in.Tie as tie
 
