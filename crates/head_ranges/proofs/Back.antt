@@ -21,6 +21,7 @@ use Rattle.protocol.specs.Record.{isReading, isNumber, readingOr0, noSender, ke
 use Rattle.protocol.specs.Row.{numberPlus1, readingPlus1, ownNumbers, startNumber, voteNumber, votedNumber, adjustedNumber, rowOf, numberIn, readingIn, senderIn, recordIn, rowFits, rowInRange}
 use Rattle.protocol.proofs.Tests.{cases, and-left, and-right, parts}
 use Rattle.protocol.proofs.Tables.{length-table, table-at, is-table}
+use Rattle.protocol.proofs.Effects.{withSenders}
 use Rattle.protocol.proofs.Ranges.{InRange, in-range}
 use Rattle.head_row.proofs.Rows.{start-read, vote-read, voted-read, adjusted-read}
 use Rattle.head_open.proofs.Marks.{has-started, has-confirmed, has-vote-turn, has-vote-closed, has-adjust-turn, has-adjust-closed}
@@ -81,21 +82,6 @@ held-back : (k : Sender) → readingOr0 (k .start) < 2 ^ 28 → readingOr0 (k .v
 held-back k s v = rw (reading-back (k .start) s, reading-back (k .vote) v) refl
 
 -- THE RECORD THAT A ROW HOLDS has all but what is kept by sender as it was
-
-abbrev withSenders : HeadRecord → List Sender → HeadRecord
-withSenders r l =
-    record {
-      n = r .n;
-      f = r .f;
-      own = r .own;
-      last = r .last;
-      started = r .started;
-      confirmed = r .confirmed;
-      vote = r .vote;
-      adjust = r .adjust;
-      adjustment = r .adjustment;
-      senders = l;
-    }
 
 held-but-senders : (r : HeadRecord) → recordIn (rowOf r) ≡ withSenders r (table (senderIn (rowOf r)) 0 16)
 unfolding recordIn rowOf

@@ -1,6 +1,7 @@
 -- What a replay's result words say of a head that has a clock is what its record says, so the third point holds of the words.
 -- Main results: `words-say` (a head's words read back), `filled` (what a replay leaves), `third-point-in-words`.
 use mathlib.Core.Path.{_≡_, refl, sym, _∙_, ap, subst}
+use mathlib.Core.Bool.{_&&_}
 use mathlib.Core.List.{List, [], _∷_, _++_}
 use Prim.Native.Nat.{ℕ, zero, suc, _+_, _*_, _^_, _≤_, _<_}
 use native.Mathlib.Nat.{not-suc-le-zero}
@@ -10,11 +11,12 @@ use borrow.Author.Tests.{le-ltb}
 use lib.IntN.{subℕ}
 use Rattle.protocol.specs.Types.{OptNumber, NoNumber, SomeNumber, HeadRecord, Setting, Verdict, Accepted, Refused, Filled}
 use Rattle.protocol.specs.Words.{bits, timeOf, settingAt, entryCount}
-use Rattle.protocol.specs.Record.{readingOr0, numberOr0, startOfChoice, chosenStart, outcome, correction}
+use Rattle.protocol.specs.Record.{isReading, isNumber, readingOr0, numberOr0, startOfChoice, chosenStart, outcome, correction}
 use Rattle.protocol.specs.Causes.{sheetVerdict}
 use Rattle.protocol.specs.Run.{History, recordOf, ran, runOf, afterVerdict, runSheet}
 use Rattle.protocol.specs.Results.{outcomeWord, adjustmentWord, startWord, wordsPerHead, headWords, wordsFrom, resultWords, Replay, fillAfter, replay}
 use Rattle.protocol.specs.Claim.{CorrectHead, Ending, endingOf, resultOf, endingInWords, shown, apart, sinceStart, Agreement, ThirdPointInWords}
+use Rattle.protocol.proofs.Tests.{cond-elim}
 use Rattle.protocol.proofs.Effects.{votes, adjusts}
 use Rattle.protocol.proofs.Valid.{Sheet, accepted-sheet}
 use Rattle.protocol.proofs.Ranges.{InRange, SentInRange, run-in-range}
@@ -46,6 +48,12 @@ number-below n (SomeNumber v) sent l h = omega arith
 pub start-below : (r : HeadRecord) (m : OptNumber) → InRange r → SentInRange (r .n) m (r .vote .sent) → readingOr0 (startOfChoice r m) < 2 ^ 28
 start-below r NoNumber i h = omega arith
 start-below r (SomeNumber v) i h = i .kept v .below (omega arith) .start
+
+pub outcome-below : (r : HeadRecord) → outcome r < 3
+unfolding outcome
+outcome-below r =
+    cond-elim (λ (o : ℕ). o < 3) (r .adjust .closed)
+    (λ _. cond-elim (λ (o : ℕ). o < 3) (isReading (chosenStart r) && isNumber (r .adjust .choice)) (λ _. omega arith) (λ _. omega arith)) (λ _. omega arith)
 
 says : (q : ℕ) (r : HeadRecord) → q < 16 → InRange r → outcome r ≡ 2 → Says q r
 unfolding outcomeWord adjustmentWord startWord chosenStart

@@ -1,7 +1,6 @@
 -- A head's three result words, and one head's words more in the buffer.
 -- Main results: `outcome-is`, `adjustment-is`, `start-is`; `next-head`.
 use mathlib.Core.Path.{_≡_, refl, _∙_, ap}
-use mathlib.Core.Bool.{_&&_}
 use mathlib.Core.List.{List, [], _∷_, _++_, append-assoc}
 use Prim.Native.Nat.{ℕ, zero, suc, _+_, _*_, _%_, _^_, _≤_, _<_}
 use native.Mathlib.Numerals.{add-one}
@@ -10,7 +9,7 @@ use lib.ListN.{length, getD, set, drop}
 use lib.Seq.{drop-cons}
 use lib.Dec.{eqb, lit<}
 use Rattle.protocol.specs.declared.HeadRecord.{HeadRecord}
-use Rattle.protocol.specs.Record.{votes, adjusts, isReading, isNumber, numberOr0, readingOr0, chosenStart, outcome}
+use Rattle.protocol.specs.Record.{votes, adjusts, numberOr0, readingOr0, chosenStart, outcome}
 use Rattle.protocol.specs.Row.{rowOf}
 use Rattle.protocol.specs.Board.{resultNumbers}
 use Rattle.protocol.specs.Results.{ifAdopted, outcomeWord, adjustmentWord, startWord, headWords, wordsPerHead, wordsFrom}
@@ -18,18 +17,12 @@ use Rattle.protocol.proofs.Tests.{cond-elim}
 use Rattle.protocol.proofs.Tables.{table-at}
 use Rattle.protocol.proofs.Ranges as Ranges
 use Rattle.protocol.proofs.Ranges.{in-range}
-use Rattle.protocol.proofs.ResultWords.{length-words, number-below, start-below}
+use Rattle.protocol.proofs.ResultWords.{length-words, outcome-below, number-below, start-below}
 use Rattle.head_result.specs.Result.{IsResult}
 use Rattle.results.specs.declared.HeadWords.{HeadWords}
 use Rattle.results.specs.Written.{InRange, AreWords, Writes}
 
 -- ONE HEAD
-
-outcome-below : (r : HeadRecord) → outcome r < 16
-unfolding outcome
-outcome-below r =
-    cond-elim (λ (o : ℕ). o < 16) (r .adjust .closed)
-    (λ _. cond-elim (λ (o : ℕ). o < 16) (isReading (chosenStart r) && isNumber (r .adjust .choice)) (λ _. omega arith) (λ _. omega arith)) (λ _. omega arith)
 
 abbrev field6 : ℕ → ℕ → ℕ → ℕ → ℕ
 field6 o q c a = 6 * 2 ^ 28 + o * 2 ^ 24 + q * 2 ^ 20 + c * 2 ^ 16 + a * 2 ^ 12
@@ -61,7 +54,7 @@ module _ (q : ℕ) (row x : List ℕ) (w : ℕ) (low : q < 16) (result : IsResul
         number-is 0,
         number-is 1,
         number-is 2,
-        low-bits (outcome r) (outcome-below r),
+        low-bits (outcome r) (let o = outcome-below r in omega arith),
         low-bits q low,
         low-bits _ (adopted-below r (numberOr0 (r .vote .choice)) 16 (lit< tt) c),
         low-bits _ (adopted-below r (numberOr0 (r .adjust .choice)) 16 (lit< tt) a),

@@ -1,7 +1,6 @@
 -- An entry's line, read off its head's row.
 -- Main results: `none-in`, `some-in`; `line-is`.
 use mathlib.Core.Path.{_≡_, refl, _∙_, ap}
-use mathlib.Core.Bool.{_&&_}
 use mathlib.Core.List.{List}
 use mathlib.Core.Logic.{_≢_}
 use Prim.Native.Nat.{ℕ, _-_, _%_}
@@ -12,10 +11,9 @@ use Rattle.protocol.specs.declared.OptNumber.{OptNumber}
 use Rattle.protocol.specs.declared.OptNumber.the-variants.{NoNumber, SomeNumber}
 use Rattle.protocol.specs.declared.HeadRecord.{HeadRecord}
 use Rattle.protocol.specs.declared.Entry.{Entry}
-use Rattle.protocol.specs.Record.{votes, adjusts, isReading, isNumber, chosenStart, outcome}
-use Rattle.protocol.proofs.Tests.{cond-elim}
+use Rattle.protocol.specs.Record.{votes, adjusts, outcome}
 use Rattle.protocol.proofs.Ranges.{in-range}
-use Rattle.protocol.proofs.ResultWords.{number-below}
+use Rattle.protocol.proofs.ResultWords.{outcome-below, number-below}
 use Rattle.head_row.proofs.Rows.{own-number}
 use Rattle.head_result.specs.Result.{IsResult}
 use Rattle.tracing.specs.Trace.{lineOf}
@@ -34,10 +32,7 @@ some-in w z (SomeNumber k) e b = ap SomeNumber (omega arith)
 -- THE LINE
 
 outcome-in-byte : (r : HeadRecord) → outcome r % 256 ≡ outcome r
-unfolding outcome
-outcome-in-byte r =
-    cond-elim (λ (o : ℕ). o % 256 ≡ o) (r .adjust .closed)
-    (λ _. cond-elim (λ (o : ℕ). o % 256 ≡ o) (isReading (chosenStart r) && isNumber (r .adjust .choice)) (λ _. omega arith) (λ _. omega arith)) (λ _. omega arith)
+outcome-in-byte r = let o = outcome-below r in omega arith
 
 pub line-is : (e : Entry) (row x : List ℕ) (c a : OptNumber) → IsNumber (getD row 2 0) c → IsNumber (getD row 4 0) a → IsResult row x
     → IsLine e row (record { time = e .time; head = e .head; action = e .action; candidate = c; adjuster = a; adjustment = record { 0 = getD row 6 0 }; outcome = getD x 0 0 % 256 })
