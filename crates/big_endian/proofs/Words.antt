@@ -5,7 +5,10 @@ use Prim.Native.Nat.{ℕ, zero, suc, _+_, _*_, _/_, _≤_, _<_}
 use native.Mathlib.Omega.{arith}
 use lib.ListN.{length, take, getD}
 use lib.Seq.{ext-getD, getD-take, length-take-le}
-use Rattle.protocol.specs.Program.{bigEndian}
+use Rattle.protocol.specs.declared.Verdict.{Verdict}
+use Rattle.protocol.specs.declared.Verdict.the-variants.{Accepted}
+use Rattle.protocol.specs.Program.{bigEndian, bytesVerdict}
+use Rattle.protocol.proofs.Fits.{few-bytes}
 
 abbrev word : ℕ → ℕ → ℕ → ℕ → ℕ
 word a b c d = ((a * 256 + b) * 256 + c) * 256 + d
@@ -57,3 +60,9 @@ whole-words l r n h few =
   where
     size : length (take (length l / 4) r) ≡ length l / 4
     size = length-take-le (length l / 4) r (omega arith)
+
+-- the words of accepted bytes are so many of those read, for a program to lend on
+pub accepted-words : (bytes words : List ℕ) (v : Verdict) → v ≡ bytesVerdict bytes → v ≡ Accepted → 12290 ≡ length words
+    → (length bytes / 4 ≤ 12290) × (length bytes / 4 ≡ length (take (length bytes / 4) words))
+accepted-words bytes words v is accepted n =
+    let few = few-bytes bytes (sym is ∙ accepted) in (omega arith, sym (length-take-le _ words (omega arith)))

@@ -1,7 +1,7 @@
 -- `print`: a cause of the bytes, or a sheet.
 use mathlib.Core.Path.{sym, _∙_}
-use lib.Seq.{length-take-le}
 use Rattle.protocol.proofs.Fits.{few-bytes}
+use Rattle.big_endian.proofs.Words.{accepted-words}
 use Rattle.printing.proofs.Sheets.{prints-cause, prints-sheet, prints}
 use native.Mathlib.Omega.{arith}
 use borrow.Author.Needs.{needs}
@@ -25,14 +25,10 @@ words-of-requires c κs = search needs
 
 array-share-prefix-words : tie.Need-array-share-prefix-words
 array-share-prefix-words c =
-    let v = c .before .before .before in
-    let few = few-bytes _ (sym (v .bytes-verdict .ensures) ∙ c .before .enum-told .given .1) in omega arith
+    let few = accepted-words _ (c .words-of .result) _ (c .before .before .before .bytes-verdict .ensures) (c .before .enum-told .given .1) (c .words-of .ensures .0) .0 in omega arith
 
 slice-aggregate-print-sheet : tie.Need-slice-aggregate-print-sheet
-slice-aggregate-print-sheet c =
-    let v = c .before .before .before .before in
-    let few = few-bytes _ (sym (v .bytes-verdict .ensures) ∙ c .before .before .enum-told .given .1) in
-    let n = c .before .words-of .ensures .0 in sym (length-take-le _ (c .before .words-of .result) (omega arith))
+slice-aggregate-print-sheet c = accepted-words _ (c .before .words-of .result) _ (c .before .before .before .before .bytes-verdict .ensures) (c .before .before .enum-told .given .1) (c .before .words-of .ensures .0) .1
 
 print-sheet-requires : tie.Need-print-sheet-requires
 print-sheet-requires c κs = search needs
