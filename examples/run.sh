@@ -17,6 +17,6 @@ try() {
     done
 }
 
-try board two_boards edges
-try sheets one_sheet
+try board_c two_boards edges
+try sheet_c one_sheet
 echo ok

@@ -6,7 +6,7 @@ set -eu
 cd "$(dirname "$0")/.."
 work=$(mktemp -d)
 trap 'rm -rf "$work"' EXIT
-rt staticlib sheets >"$work/log" 2>&1 || { cat "$work/log" >&2; exit 1; }
+rt staticlib sheet_c >"$work/log" 2>&1 || { cat "$work/log" >&2; exit 1; }
 cd reference
 export SHEETS_LIB=../target/staticlib
 for profile in release speed; do

@@ -1,6 +1,6 @@
 //! Links the proved static libraries for the programs that ask for one by a
-//! feature: BOARD_LIB and SHEETS_LIB name the folders of libboard.a and
-//! libsheets.a.
+//! feature: BOARD_LIB and SHEETS_LIB name the folders of libboard_c.a and
+//! libsheet_c.a.
 
 fn link(feature: &str, variable: &str, library: &str) {
     println!("cargo:rerun-if-env-changed={variable}");
@@ -14,6 +14,6 @@ fn link(feature: &str, variable: &str, library: &str) {
 }
 
 fn main() {
-    link("CARGO_FEATURE_BOARD", "BOARD_LIB", "board");
-    link("CARGO_FEATURE_SHEETS", "SHEETS_LIB", "sheets");
+    link("CARGO_FEATURE_BOARD", "BOARD_LIB", "board_c");
+    link("CARGO_FEATURE_SHEETS", "SHEETS_LIB", "sheet_c");
 }

@@ -6,7 +6,7 @@ set -eu
 [ $# -eq 3 ] || { echo "usage: differential.sh SEED SHEETS ACTIONS" >&2 && exit 2; }
 cd "$(dirname "$0")/.."
 rt check corpus
-rt staticlib board
+rt staticlib board_c
 (cd reference && BOARD_LIB=../target/staticlib cargo build --release --offline --features board)
 reference/target/release/differential target/bin/corpus "$1" "$2"
 reference/target/release/actions "$1" "$3"

@@ -11,8 +11,8 @@ usage() {
 }
 [ $# -ge 2 ] || usage
 case $1 in
-    step) crate=board folder=BOARD_LIB longest=1443 ;;
-    sheet) crate=sheets folder=SHEETS_LIB longest=49300 ;;
+    step) crate=board_c folder=BOARD_LIB longest=1443 ;;
+    sheet) crate=sheet_c folder=SHEETS_LIB longest=49300 ;;
     *) usage ;;
 esac
 target=$1 seconds=$2

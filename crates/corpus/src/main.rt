@@ -1,9 +1,9 @@
 // What the replay program prints, for many sheets: on standard input, for each sheet, the number of its bytes as a
 // big-endian word, then its bytes.
-use big_endian::word_at;
+use data_bytes::word_at;
 use libc::STDIN_FILENO;
 use libc::STDOUT_FILENO;
-use printing::print;
+use print_replay::print;
 
 fn print_sheet(bytes: &[u8]) {
     let mut out = [0u8; 1024];

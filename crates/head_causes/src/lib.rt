@@ -1,7 +1,7 @@
 // Causes 10, 6, 8 and 9 of an action at one head, by its row.
+use head_input::input_fits;
 use head_open::closed_by;
 use head_ranges::row_in_range;
-use inputs::input_fits;
 use protocol::Cause;
 use protocol::Input;
 use protocol::Verdict;

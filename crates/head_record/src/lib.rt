@@ -1,5 +1,6 @@
 // A head's record by value and its row: the row of a record, the record that a row in its ranges holds, and a frame from its
 // numbers.
+use data_values::is_number;
 use head_open::has_mark;
 use protocol::Frame;
 use protocol::HeadRecord;
@@ -9,7 +10,6 @@ use protocol::Phase;
 use protocol::Reading;
 use protocol::Sender;
 use protocol::Sent;
-use values::is_number;
 ghost use mathlib.Core.Path.{_≡_};
 ghost use mathlib.Core.List.{map};
 ghost use Prim.Native.Nat.{_%_, _<_, _≤_};

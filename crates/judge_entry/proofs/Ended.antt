@@ -16,12 +16,12 @@ use Rattle.protocol.specs.Run.{History, recordOf}
 use Rattle.protocol.specs.Premises.{took, premise4}
 use Rattle.protocol.proofs.Valid.{closed-took}
 use Rattle.head_open.proofs.Marks.{has-vote-closed, has-adjust-turn, has-adjust-closed}
-use Rattle.places.specs.Arrays.{Stands}
-use Rattle.places.proofs.Standing.{valid-history, row-at}
-use Rattle.sets.proofs.Loops.{all-more, all-fails}
-use Rattle.judge_starts.proofs.Times.{all-same}
-use Rattle.judge_starts.proofs.Accepted.{few-heads}
-use Rattle.judge_closes.proofs.Heard.{adjust-turn-took}
+use Rattle.sheet_state.specs.Arrays.{Stands}
+use Rattle.sheet_state.proofs.Standing.{valid-history, row-at}
+use Rattle.data_sets.proofs.Loops.{all-more, all-fails}
+use Rattle.judge_premise_3.proofs.Times.{all-same}
+use Rattle.judge_premise_3.proofs.Accepted.{few-heads}
+use Rattle.judge_premises_5_to_8.proofs.Heard.{adjust-turn-took}
 
 -- what the marks say after actions 6, 7 and 9
 abbrev pub marksEnded : ℕ → Bool

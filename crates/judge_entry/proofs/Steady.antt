@@ -22,11 +22,11 @@ use Rattle.protocol.proofs.Tests.{absurd-bool, cases, and-both, and-left, and-r
 use Rattle.protocol.proofs.Tables.{table-at, set-table}
 use Rattle.protocol.proofs.Signed.{Difference, up, down, difference-of, difference-pos}
 use Rattle.protocol.proofs.Valid.{Valid, start, more}
-use Rattle.places.specs.Arrays.{answerAt, eventAt, Stands}
-use Rattle.places.proofs.Standing.{entry-sized, valid-history, next-taken}
-use Rattle.sets.proofs.Sets.{same-test}
-use Rattle.drift.specs.Drift.{leadOf, lagOf, lesserOf, staysSteady}
-use Rattle.judge_starts.proofs.Accepted.{entry-time}
+use Rattle.sheet_state.specs.Arrays.{answerAt, eventAt, Stands}
+use Rattle.sheet_state.proofs.Standing.{entry-sized, valid-history, next-taken}
+use Rattle.data_sets.proofs.Sets.{same-test}
+use Rattle.judge_premise_2.specs.Drift.{leadOf, lagOf, lesserOf, staysSteady}
+use Rattle.judge_premise_3.proofs.Accepted.{entry-time}
 use Rattle.judge_entry.specs.Watched.{leastOf, leads, lags, Differs}
 
 -- SIGNED NUMBERS

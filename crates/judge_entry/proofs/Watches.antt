@@ -13,12 +13,12 @@ use Rattle.protocol.specs.Words.{isCorrect, entryAt}
 use Rattle.protocol.specs.Record.{Kind, votes, adjusts}
 use Rattle.protocol.specs.Run.{Event, History}
 use Rattle.protocol.specs.Premises.{delivery, closing, took, startHeard, premise3}
-use Rattle.places.specs.Arrays.{eventAt}
-use Rattle.judge_starts.specs.Starts.{startTimes}
-use Rattle.judge_starts.proofs.Events.{times-kept, premise-3-delivered, premise-3-confirmed, premise-3-kept}
-use Rattle.judge_closes.specs.Closes.{receiverSets, Found}
-use Rattle.judge_closes.proofs.Receivers.{receivers-same}
-use Rattle.judge_closes.proofs.Found.{found-apart}
+use Rattle.sheet_state.specs.Arrays.{eventAt}
+use Rattle.judge_premise_3.specs.Starts.{startTimes}
+use Rattle.judge_premise_3.proofs.Events.{times-kept, premise-3-delivered, premise-3-confirmed, premise-3-kept}
+use Rattle.judge_premises_5_to_8.specs.Closes.{receiverSets, Found}
+use Rattle.judge_premises_5_to_8.proofs.Receivers.{receivers-same}
+use Rattle.judge_premises_5_to_8.proofs.Found.{found-apart}
 use Rattle.judge_entry.specs.Watched.{Watched}
 
 either-0-3 : (b : Bool) → cond b 0 3 < 16

@@ -9,9 +9,9 @@ use Rattle.protocol.specs.declared.Setting.{Setting}
 use Rattle.protocol.specs.declared.Entry.{Entry}
 use Rattle.protocol.specs.Base.{table}
 use Rattle.protocol.specs.Run.{History}
-use Rattle.drift.specs.Drift.{leadOf, lagOf, lesserOf}
-use Rattle.judge_starts.specs.Starts.{startTimes}
-use Rattle.judge_closes.specs.Closes.{receiverSets, Found}
+use Rattle.judge_premise_2.specs.Drift.{leadOf, lagOf, lesserOf}
+use Rattle.judge_premise_3.specs.Starts.{startTimes}
+use Rattle.judge_premises_5_to_8.specs.Closes.{receiverSets, Found}
 
 -- by head, the least of a difference that each of its entries has; at first a number above any
 unfoldable pub leastOf : (Entry → ℤ) → History → ℕ → ℤ

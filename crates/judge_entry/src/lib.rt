@@ -1,17 +1,17 @@
 // What the premises say at an accepted entry, on the heads' rows before it.
-use drift::lag;
-use drift::lead;
-use drift::lesser;
-use drift::stays_steady;
+use data_words::is_correct;
 use head_open::has_mark;
-use judge_closes::close_breaks;
-use judge_closes::frame_breaks;
-use judge_starts::start_confirmed_breaks;
-use judge_starts::start_delivered_breaks;
-use places::seat;
+use judge_premise_2::lag;
+use judge_premise_2::lead;
+use judge_premise_2::lesser;
+use judge_premise_2::stays_steady;
+use judge_premise_3::start_confirmed_breaks;
+use judge_premise_3::start_delivered_breaks;
+use judge_premises_5_to_8::close_breaks;
+use judge_premises_5_to_8::frame_breaks;
 use protocol::Entry;
 use protocol::Setting;
-use words::is_correct;
+use sheet_state::seat;
 ghost use mathlib.Core.Path.{_≡_};
 ghost use mathlib.Core.Bool.{_&&_};
 ghost use mathlib.Core.List.{List, _∷_};
@@ -22,7 +22,7 @@ ghost use Rattle.protocol.specs.Step.{hasMark};
 ghost use Rattle.protocol.specs.Words.{settingAt, entryAt};
 ghost use Rattle.protocol.specs.Run.{History};
 ghost use Rattle.protocol.specs.Premises.{premise2, premise4};
-ghost use Rattle.places.specs.Arrays.{answerAt, eventAt, Stands};
+ghost use Rattle.sheet_state.specs.Arrays.{answerAt, eventAt, Stands};
 ghost use Rattle.judge_entry.specs.Watched.{Watched, Differs};
 
 // Whether an entry keeps premise 2 with those before it.

@@ -26,10 +26,10 @@ use Rattle.protocol.proofs.Effects.{named, serialOf}
 use Rattle.protocol.proofs.Valid.{Taken, Valid, more}
 use Rattle.protocol.proofs.Ranges.{FrameInRange, frames-in-range}
 use Rattle.protocol.proofs.Runs.{sent-before, sent-now}
-use Rattle.places.specs.Places.{placeFor}
-use Rattle.places.specs.Arrays.{actionAt, headAt, serialAt, frameAt, choicesOf, carriedOf, answerAt, eventAt, Stands, Carries}
-use Rattle.places.proofs.Places.{place-fields, frame-at-place, fields-place}
-use Rattle.places.proofs.Standing.{heads-few, at-most-16, valid-history, next-taken}
+use Rattle.sheet_state.specs.Places.{placeFor}
+use Rattle.sheet_state.specs.Arrays.{actionAt, headAt, serialAt, frameAt, choicesOf, carriedOf, answerAt, eventAt, Stands, Carries}
+use Rattle.sheet_state.proofs.Places.{place-fields, frame-at-place, fields-place}
+use Rattle.sheet_state.proofs.Standing.{heads-few, at-most-16, valid-history, next-taken}
 
 -- THE PLACES OF ONE FRAME
 

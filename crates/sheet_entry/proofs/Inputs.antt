@@ -23,10 +23,10 @@ use Rattle.protocol.proofs.Tests.{absurd-bool, and-left}
 use Rattle.protocol.proofs.Tables.{table-at}
 use Rattle.protocol.proofs.Valid.{frame-fits}
 use Rattle.protocol.proofs.Ranges.{frames-in-range}
-use Rattle.places.specs.Places.{placeFor}
-use Rattle.places.specs.Arrays.{frameAt, choicesOf, carriedOf, Stands, Carries}
-use Rattle.places.proofs.Places.{place-fields, frame-at-place}
-use Rattle.places.proofs.Standing.{entry-sized, heads-few, valid-history}
+use Rattle.sheet_state.specs.Places.{placeFor}
+use Rattle.sheet_state.specs.Arrays.{frameAt, choicesOf, carriedOf, Stands, Carries}
+use Rattle.sheet_state.proofs.Places.{place-fields, frame-at-place}
+use Rattle.sheet_state.proofs.Standing.{entry-sized, heads-few, valid-history}
 
 -- WHAT A FRAME CARRIES, by the numbers that are kept of it
 

@@ -23,8 +23,8 @@ use Rattle.protocol.proofs.Runs.{does-effect}
 use Rattle.head_row.specs.Promises.{Fits, Acts}
 use Rattle.head_row.proofs.Fitting.{fits}
 use Rattle.head_step.specs.Sized.{InputSized}
-use Rattle.places.specs.Arrays.{headRows, answerAt, eventAt, Stands}
-use Rattle.places.proofs.Standing.{heads-few, at-most-16, valid-history, next-taken, row-at}
+use Rattle.sheet_state.specs.Arrays.{headRows, answerAt, eventAt, Stands}
+use Rattle.sheet_state.proofs.Standing.{heads-few, at-most-16, valid-history, next-taken, row-at}
 use Rattle.sheet_entry.proofs.Frames.{choice-named}
 
 module _ {ws : List ℕ} {i : ℕ} {s : History} {heads : List (List ℕ)} (now : Stands ws i s heads) (accepted : answerAt ws i s .verdict ≡ Accepted) where

@@ -33,8 +33,8 @@ use Rattle.protocol.proofs.Effects.{effect-accepted}
 use Rattle.protocol.proofs.Valid.{Valid, fixed}
 use Rattle.protocol.proofs.Runs.{start-sent, sent-below}
 use Rattle.head_open.proofs.Marks.{has-started, closed-by-marks}
-use Rattle.places.specs.Arrays.{answerAt, Stands}
-use Rattle.places.proofs.Standing.{entry-sized, valid-history, row-at}
+use Rattle.sheet_state.specs.Arrays.{answerAt, Stands}
+use Rattle.sheet_state.proofs.Standing.{entry-sized, valid-history, row-at}
 use Rattle.sheet_entry.specs.Open.{isOpen}
 
 -- CAUSE 9, BY THE RECORDS

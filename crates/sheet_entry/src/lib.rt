@@ -2,13 +2,13 @@
 use head_open::closed_by;
 use head_open::has_mark;
 use head_step::take;
-use places::place_for;
-use places::seat;
 use protocol::Cause;
 use protocol::Entry;
 use protocol::Input;
 use protocol::Sent;
 use protocol::Verdict;
+use sheet_state::place_for;
+use sheet_state::seat;
 ghost use mathlib.Core.Path.{_≡_};
 ghost use mathlib.Core.List.{List, _∷_};
 ghost use Prim.Native.Nat.{ℕ, _-_};
@@ -16,7 +16,7 @@ ghost use Rattle.protocol.specs.declared.Verdict.the-variants.{Accepted};
 ghost use Rattle.protocol.specs.Words.{settingAt, entryAt, entryFitsAt};
 ghost use Rattle.protocol.specs.Row.{sentOf};
 ghost use Rattle.protocol.specs.Run.{History, frameOf, inputOf, lastTime};
-ghost use Rattle.places.specs.Arrays.{headRows, answerAt, eventAt, Stands, Carries};
+ghost use Rattle.sheet_state.specs.Arrays.{headRows, answerAt, eventAt, Stands, Carries};
 ghost use Rattle.sheet_entry.specs.Open.{isOpen};
 
 // Whether the frame that an entry delivers, if any, was sent, and its action is not closed.

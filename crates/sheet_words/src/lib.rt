@@ -1,14 +1,14 @@
 // A sheet's words: causes 1 to 4 of the whole sheet, its setting and its entries, and cause 6 of an entry.
+use data_words::entry_of;
+use data_words::first_word_fits;
+use data_words::kind;
+use data_words::second_word_fits;
+use data_words::setting_of;
+use data_words::zero_where_unused;
 use protocol::Cause;
 use protocol::Entry;
 use protocol::Setting;
 use protocol::Verdict;
-use words::entry_of;
-use words::first_word_fits;
-use words::kind;
-use words::second_word_fits;
-use words::setting_of;
-use words::zero_where_unused;
 ghost use mathlib.Core.Path.{_≡_};
 ghost use Prim.Native.Nat.{_+_, _*_, _≤_, _<_};
 ghost use lib.ListN.{length};

@@ -1,19 +1,19 @@
 // Prints, after every entry of a run sheet: its index, real time, head and action, then the head's candidate, adjuster
 // and adjustment (- for none) and outcome; or `refused`, the cause's number and the place, at the entry that is refused.
 // The sheet comes on standard input; it has at most 49,160 bytes, so one that fills the buffer is too long.
-use big_endian::bytes_verdict;
-use big_endian::words_of;
-use causes::cause_number;
+use data_bytes::bytes_verdict;
+use data_bytes::words_of;
+use data_causes::cause_number;
 use libc::STDIN_FILENO;
 use libc::STDOUT_FILENO;
 use protocol::Cause;
 use protocol::OptNumber;
 use protocol::Verdict;
 use sheet_words::sheet_verdict;
-use tracing::Line;
-use tracing::Traced;
-use tracing::first_heads;
-use tracing::trace_next;
+use trace_entries::Line;
+use trace_entries::Traced;
+use trace_entries::first_heads;
+use trace_entries::trace_next;
 ghost use mathlib.Core.Path.{_≡_};
 ghost use Rattle.protocol.specs.declared.Verdict.the-variants.{Accepted};
 ghost use Rattle.protocol.specs.Causes.{sheetVerdict};

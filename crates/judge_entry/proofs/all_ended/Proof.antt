@@ -4,7 +4,7 @@ use Prim.Native.Nat.{_-_, _≤_}
 use native.Mathlib.Omega.{arith}
 use denote.Ref.{now}
 use Rattle.protocol.specs.Base.{allBelow}
-use Rattle.sets.proofs.Loops.{all-until}
+use Rattle.data_sets.proofs.Loops.{all-until}
 use Rattle.judge_entry.proofs.Ended.{isEnded, ended-more, not-ended, all-ended-is}
 use borrow.Author.Needs.{needs}
 use Rattle.judge_entry.proofs.all_ended.Statement.{statement}

@@ -7,7 +7,7 @@ use mir.Syntax.{w64}
 use mir.Val.{toZ, ofZ}
 use mir.Facts.{toZ-ofZ}
 use denote.Ref.{now}
-use Rattle.drift.specs.Drift.{lesserOf}
+use Rattle.judge_premise_2.specs.Drift.{lesserOf}
 use Rattle.judge_entry.proofs.Steady.{differs-next, steady-next}
 use borrow.Author.Needs.{needs}
 use Rattle.judge_entry.proofs.keeps_steady.Statement.{statement}

@@ -1,7 +1,7 @@
 use Prim.Native.Nat.{_-_}
 use native.Mathlib.Omega.{arith}
 use Rattle.protocol.specs.Words.{entryCount}
-use Rattle.tracing.specs.Follows.{Follows}
+use Rattle.trace_entries.specs.Follows.{Follows}
 use borrow.Author.Needs.{needs}
 use Rattle.trace.proofs.print_entries.Statement.{statement}
 use Rattle.trace.proofs.print_entries.Tie as tie

@@ -1,4 +1,4 @@
-use Rattle.big_endian.proofs.Words.{accepted-words}
+use Rattle.data_bytes.proofs.Words.{accepted-words}
 use native.Mathlib.Omega.{arith}
 use borrow.Author.Needs.{needs}
 use Rattle.trace.proofs.trace_bytes.Statement.{statement}

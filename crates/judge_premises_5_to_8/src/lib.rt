@@ -1,0 +1,154 @@
+// Premises 5 and 7 at the first correct close of a phase, 6 and 8 at the later ones. Phase 0 is the votes', 1 the adjusts'.
+use data_sets::has_all;
+use data_sets::with_head;
+use data_words::is_correct;
+use head_open::has_mark;
+use judge_premise_3::start_reached;
+use protocol::Entry;
+use protocol::Setting;
+use sheet_state::place_for;
+use sheet_state::seat;
+ghost use mathlib.Core.Path.{_≡_};
+ghost use mathlib.Core.Bool.{true, false};
+ghost use mathlib.Core.List.{List, _∷_};
+ghost use Prim.Native.Nat.{ℕ, _≤_, _<_, min};
+ghost use lib.ListN.{set};
+ghost use Rattle.protocol.specs.Base.{_⇒_, any, allBelow};
+ghost use Rattle.protocol.specs.Words.{isCorrect, settingAt, entryAt};
+ghost use Rattle.protocol.specs.Step.{hasMark};
+ghost use Rattle.protocol.specs.Run.{History};
+ghost use Rattle.protocol.specs.Premises.{delivery, closing, received, correctAll, correctCloses};
+ghost use Rattle.sheet_state.specs.Arrays.{eventAt, Stands};
+ghost use Rattle.judge_premise_3.specs.Starts.{startTimes};
+ghost use Rattle.judge_premises_5_to_8.specs.Closes.{kindOf, receiverSets, frameReached, heardFrom, allHeard, Found};
+
+// Each frame of head p under the first serials, as many as the count says, reached all other correct heads.
+fn frames_reached(g: Setting, p: u8, a: u8, count: u32, received: &[u16; 512]) -> bool
+    ensures { λ b. ⌜ b ≡ allBelow (min count 16) (frameReached g (now (received .entry)) a p) ⌝ }
+{
+    let mut k: u8 = 0;
+    while (k as u32) < count && k < 16 {
+        if !has_all(with_head(received[place_for(a, p, k)], p), g.correct) {
+            return false;
+        }
+        k += 1;
+    }
+    true
+}
+
+// "each start a correct head sent by then reached, by then, all correct heads": head p's did, if its marks say that it sent one.
+fn own_start_reached(g: Setting, p: u8, marks: u32, times: &[u32; 256]) -> bool
+    ensures { λ b. ⌜ ((s : History) → now (times .entry) ≡ startTimes s → p < 16 → g .n ≤ 16
+        → b ≡ (hasMark marks 1 ⇒ correctAll g (λ q. received 2 p 0 q s))) ⌝ }
+{
+    if has_mark(marks, 1) {
+        return start_reached(g, times, p);
+    }
+    true
+}
+
+// What premise 5 or 7 asks of a correct head p. A head whose vote is open "either took all of 1, 3 and 4 or was delivered a vote" if
+// it has a candidate or took its vote turn.
+fn head_reached(
+    g: Setting,
+    phase: usize,
+    p: u8,
+    heads: &[[u32; 80]; 16],
+    received: &[u16; 512],
+    times: &[u32; 256],
+) -> bool
+    ensures { λ b. ⌜ ((ws : List ℕ) (i : ℕ) (s : History) → Stands ws i s (now (heads .entry)) → g ≡ settingAt ws → now (received .entry) ≡ receiverSets s
+        → now (times .entry) ≡ startTimes s → isCorrect g p ≡ true → any (correctCloses g (kindOf phase)) s ≡ false → b ≡ heardFrom g (kindOf phase) s p) ⌝ }
+{
+    let i = seat(p);
+    let marks = heads[i][1];
+    if phase == 0 {
+        if !((heads[i][2] != 0) | has_mark(marks, 4)) {
+            return false;
+        }
+        if !own_start_reached(g, p, marks, times) {
+            return false;
+        }
+        return frames_reached(g, p, 5, heads[i][3], received);
+    }
+    if !has_mark(marks, 16) {
+        return false;
+    }
+    frames_reached(g, p, 8, heads[i][5], received)
+}
+
+// Premise 5 or 7 at the first correct close of the phase.
+fn phase_reached(
+    g: Setting,
+    phase: usize,
+    heads: &[[u32; 80]; 16],
+    received: &[u16; 512],
+    times: &[u32; 256],
+) -> bool
+    ensures { λ b. ⌜ ((ws : List ℕ) (i : ℕ) (s : History) → Stands ws i s (now (heads .entry)) → g ≡ settingAt ws → now (received .entry) ≡ receiverSets s
+        → now (times .entry) ≡ startTimes s → any (correctCloses g (kindOf phase)) s ≡ false → b ≡ allHeard g (kindOf phase) s) ⌝ }
+{
+    let mut p: u8 = 0;
+    while p < g.n {
+        if is_correct(g, p) {
+            if !head_reached(g, phase, p, heads, received, times) {
+                return false;
+            }
+        }
+        p += 1;
+    }
+    true
+}
+
+// At an entry that closes the phase: the number to set in what was found so far. Premise 5 or 7 is asked at the first correct close,
+// 6 or 8 at the later ones.
+pub fn close_breaks(
+    g: Setting,
+    e: Entry,
+    phase: usize,
+    heads: &[[u32; 80]; 16],
+    received: &[u16; 512],
+    times: &[u32; 256],
+    found: &mut [u8; 16],
+) -> usize
+    requires { ⌜ phase < 2 ⌝ }
+    ensures { λ k. ⌜ ((ws : List ℕ) (i : ℕ) (s : History) → Stands ws i s (now (heads .entry)) → g ≡ settingAt ws → e ≡ entryAt ws i → e .action ≡ closing (kindOf phase)
+        → now (received .entry) ≡ receiverSets s → now (times .entry) ≡ startTimes s → Found g s (now (found .entry))
+        → Found g (eventAt ws i s ∷ s) (set (now (found .exit)) k 1)) × (k < 16) ⌝ }
+{
+    if !is_correct(g, e.head) {
+        return 0;
+    }
+    if found[12 + phase] == 1 {
+        if found[10 + phase] == 1 {
+            return 6 + 2 * phase;
+        }
+        return 0;
+    }
+    found[12 + phase] = 1;
+    if !phase_reached(g, phase, heads, received, times) {
+        return 5 + 2 * phase;
+    }
+    0
+}
+
+// At an entry that delivers a frame of the phase: the number to set in what was found so far.
+pub fn frame_breaks(
+    g: Setting,
+    e: Entry,
+    phase: usize,
+    received: &mut [u16; 512],
+    found: &[u8; 16],
+) -> usize
+    requires { ⌜ phase < 2 ⌝ }
+    ensures { λ k. ⌜ ((ws : List ℕ) (i : ℕ) (s : History) → e ≡ entryAt ws i → e .action ≡ delivery (kindOf phase) → now (received .entry) ≡ receiverSets s → Found g s (now (found .entry))
+        → (now (received .exit) ≡ receiverSets (eventAt ws i s ∷ s)) × Found g (eventAt ws i s ∷ s) (set (now (found .entry)) k 1)) × (k < 16) ⌝ }
+{
+    let j = place_for(e.action, e.sender, e.serial);
+    received[j] = with_head(received[j], e.head);
+    if is_correct(g, e.head) && found[12 + phase] == 1 {
+        10 + phase
+    } else {
+        0
+    }
+}

@@ -1,0 +1,66 @@
+use Rattle.judge_run.proofs.Ready.{has-two, ready, run-passes, run-turned-back}
+use native.Mathlib.Omega.{arith}
+use borrow.Author.Needs.{needs}
+use Rattle.judge_run.proofs.run.Statement.{statement}
+use Rattle.judge_run.proofs.run.Tie as tie
+
+sheet-verdict-requires : tie.Need-sheet-verdict-requires
+sheet-verdict-requires c κs = search needs
+
+enum-known-v : tie.Need-enum-known-v
+enum-known-v c = search needs
+
+enum-told : tie.Need-enum-told
+enum-told c = search needs
+
+setting-at-requires : tie.Need-setting-at-requires
+setting-at-requires c κs = has-two _ _ (c .before .before .sheet-verdict .ensures) (c .enum-told .given .1)
+
+entry-count-requires : tie.Need-entry-count-requires
+entry-count-requires c κs = has-two _ _ (c .before .before .before .sheet-verdict .ensures) (c .before .enum-told .given .1)
+
+cast-fresh-row : tie.Need-cast-fresh-row
+cast-fresh-row c = search needs
+
+cast-fresh-row-2 : tie.Need-cast-fresh-row-2
+cast-fresh-row-2 c = search needs
+
+fresh-row-requires : tie.Need-fresh-row-requires
+fresh-row-requires c κs = search needs
+
+number-heads-requires : tie.Need-number-heads-requires
+number-heads-requires c κs = search needs
+
+run-entries-requires : tie.Need-run-entries-requires
+run-entries-requires c κs = let all = c .before .before .before .before .before .before .before .before .entry-count .ensures in ready _ _ (c .before .before .before .before .before .before .before .before .before .before .before .before .sheet-verdict .ensures) (c .before .before .before .before .before .before .before .before .before .before .enum-told .given .1) _ (c .before .before .before .before .before .before .before .before .before .setting-at .ensures) _ (c .before .before .before .before .before .fresh-row .ensures) _ (c .before .before .number-heads .ensures) _ (omega (arith, all, c .before .if1 .taken))
+
+run-entries-requires-2 : tie.Need-run-entries-requires-2
+run-entries-requires-2 c κs = let all = c .before .before .before .before .before .before .before .before .entry-count .ensures in ready _ _ (c .before .before .before .before .before .before .before .before .before .before .before .before .sheet-verdict .ensures) (c .before .before .before .before .before .before .before .before .before .before .enum-told .given .1) _ (c .before .before .before .before .before .before .before .before .before .setting-at .ensures) _ (c .before .before .before .before .before .fresh-row .ensures) _ (c .before .before .number-heads .ensures) _ (omega (arith, all))
+
+returns : tie.Need-returns
+returns c = run-turned-back _ _ (c .before .before .before .sheet-verdict .ensures) _ _ (c .before .v .given .1) _
+
+returns-2 : tie.Need-returns-2
+returns-2 c = let all = c .before .before .before .before .before .before .before .before .before .entry-count .ensures in run-passes _ _ (c .before .before .before .before .before .before .before .before .before .before .before .before .before .sheet-verdict .ensures) (c .before .before .before .before .before .before .before .before .before .before .before .enum-told .given .1) _ (c .before .before .before .before .before .before .before .before .before .before .setting-at .ensures) _ _ (omega (arith, all, c .before .before .if1 .taken)) _ _ (c .run-entries .ensures)
+
+returns-3 : tie.Need-returns-3
+returns-3 c = let all = c .before .before .before .before .before .before .before .before .before .entry-count .ensures in run-passes _ _ (c .before .before .before .before .before .before .before .before .before .before .before .before .before .sheet-verdict .ensures) (c .before .before .before .before .before .before .before .before .before .before .before .enum-told .given .1) _ (c .before .before .before .before .before .before .before .before .before .before .setting-at .ensures) _ _ (omega (arith, all, c .before .before .if1 .left)) _ _ (c .run-entries2 .ensures)
+
+pub run-spec : {M : Type 1} → statement M
+run-spec =
+    tie.close
+    (tie.spec
+    sheet-verdict-requires
+    enum-known-v
+    enum-told
+    setting-at-requires
+    entry-count-requires
+    cast-fresh-row
+    cast-fresh-row-2
+    fresh-row-requires
+    number-heads-requires
+    run-entries-requires
+    run-entries-requires-2
+    returns
+    returns-2
+    returns-3)

@@ -1,0 +1,111 @@
+// One pass over a sheet's entries: the run of the heads, and what the premises say of it.
+use head_row::fresh_row;
+use judge_end::enough_correct;
+use judge_end::first_broken;
+use judge_entry::all_ended;
+use judge_entry::breaks;
+use judge_entry::keeps_steady;
+use protocol::Judged;
+use protocol::Setting;
+use protocol::Verdict;
+use sheet_entry::entry_verdict;
+use sheet_entry::take_entry;
+use sheet_words::entry_count;
+use sheet_words::read_entry;
+use sheet_words::setting_at;
+use sheet_words::sheet_verdict;
+ghost use mathlib.Core.Path.{_≡_};
+ghost use mathlib.Core.Bool.{true};
+ghost use mathlib.Core.List.{[]};
+ghost use Prim.Native.Nat.{_+_, _*_, _≤_};
+ghost use lib.ListN.{length, getD};
+ghost use Rattle.protocol.specs.Words.{settingAt, firstWordFits};
+ghost use Rattle.protocol.specs.Run.{runOf, runFirst};
+ghost use Rattle.sheet_state.specs.Arrays.{headRows};
+ghost use Rattle.judge_run.specs.Pass.{Passes, FreshBut, JudgedAt};
+
+// 2⁶²: above any lead and any lag.
+const NEVER: i64 = 4611686018427387904;
+
+// The first broken premise after the last entry, by what was found at the entries.
+fn judged_of(g: Setting, heads: &[[u32; 80]; 16], steady: bool, found: &[u8; 16]) -> Judged
+    ensures { λ j. ⌜ JudgedAt g (now (heads .entry)) steady (now (found .entry)) j ⌝ }
+{
+    first_broken(
+        enough_correct(g),
+        steady,
+        found[3] == 0,
+        all_ended(g, heads),
+        found[5] == 0,
+        found[6] == 0,
+        found[7] == 0,
+        found[8] == 0,
+    )
+}
+
+// "entry by entry 6 to 9": the first count entries of an accepted sheet, from fresh rows on.
+pub fn run_entries(sheet: &[u32], g: Setting, count: usize, heads: &mut [[u32; 80]; 16]) -> Judged
+    requires { ⌜ (2 + 3 * count ≤ length (now sheet)) × (length (now sheet) ≤ 12290) × (firstWordFits (getD (now sheet) 0 0) ≡ true) × (g ≡ settingAt (now sheet)) × (now heads ≡ headRows g []) ⌝ }
+    ensures { λ j. ⌜ Passes g (runOf (now (sheet .entry)) count) j (now (heads .exit)) ⌝ }
+{
+    let mut choices = [0u8; 512];
+    let mut carried = [0u32; 512];
+    let mut received = [0u16; 512];
+    let mut times = [0u32; 256];
+    let mut leads = [NEVER; 16];
+    let mut lags = [NEVER; 16];
+    let mut found = [0u8; 16];
+    let mut steady = true;
+    let mut time: u32 = 0;
+    let mut i: usize = 0;
+    while i < count {
+        let r = read_entry(sheet, g.n, i);
+        let e = r.entry;
+        let v = entry_verdict(e, r.fits, time, heads);
+        match v {
+            Verdict::Refused(c) => return Judged::Unjudged(c, 2 + 3 * i),
+            Verdict::Accepted => {
+                let k = breaks(g, e, heads, &mut received, &mut times, &mut found);
+                take_entry(e, heads, &mut choices, &mut carried);
+                found[k] = 1;
+                steady = keeps_steady(g, e, &mut leads, &mut lags) & steady;
+                time = e.time.0;
+                i += 1;
+            }
+        }
+    }
+    judged_of(g, heads, steady, &found)
+}
+
+// Fresh rows of head 0 become those of the sixteen heads.
+pub fn number_heads(heads: &mut [[u32; 80]; 16])
+    ensures { λ _. ⌜ FreshBut (now (heads .entry)) (now (heads .exit)) ⌝ }
+{
+    let mut q: usize = 0;
+    while q < 16 {
+        heads[q][9] = q as u32;
+        q += 1;
+    }
+}
+
+// The run of a sheet's first k entries, or of all of them where it has fewer: causes 1 to 4, then entry by entry 6 to 9.
+pub fn run(sheet: &[u32], k: usize, heads: &mut [[u32; 80]; 16]) -> Judged
+    ensures { λ j. ⌜ Passes (settingAt (now (sheet .entry))) (runFirst (now (sheet .entry)) k) j (now (heads .exit)) ⌝ }
+{
+    let v = sheet_verdict(sheet);
+    match v {
+        Verdict::Refused(c) => Judged::Unjudged(c, 0),
+        Verdict::Accepted => {
+            let g = setting_at(sheet);
+            let all = entry_count(sheet);
+            let fresh = fresh_row(g.n as u32, g.f as u32, 0);
+            *heads = [fresh; 16];
+            number_heads(heads);
+            if k < all {
+                run_entries(sheet, g, k, heads)
+            } else {
+                run_entries(sheet, g, all, heads)
+            }
+        }
+    }
+}

@@ -1,0 +1,68 @@
+use Rattle.judge_run.proofs.Ready.{has-two, ready}
+use Rattle.judge_sheet.proofs.Ends.{few-heads, turned-back, whole-run}
+use Rattle.judge_sheet.proofs.Claims.{reported}
+use native.Mathlib.Omega.{arith}
+use borrow.Author.Needs.{needs}
+use Rattle.judge_sheet.proofs.replay_and_judge.Statement.{statement}
+use Rattle.judge_sheet.proofs.replay_and_judge.Tie as tie
+
+sheet-verdict-requires : tie.Need-sheet-verdict-requires
+sheet-verdict-requires c κs = search needs
+
+enum-known-v : tie.Need-enum-known-v
+enum-known-v c = search needs
+
+enum-told : tie.Need-enum-told
+enum-told c = search needs
+
+setting-at-requires : tie.Need-setting-at-requires
+setting-at-requires c κs = has-two _ _ (c .before .before .sheet-verdict .ensures) (c .enum-told .given .1)
+
+cast-fresh-row : tie.Need-cast-fresh-row
+cast-fresh-row c = search needs
+
+cast-fresh-row-2 : tie.Need-cast-fresh-row-2
+cast-fresh-row-2 c = search needs
+
+fresh-row-requires : tie.Need-fresh-row-requires
+fresh-row-requires c κs = search needs
+
+number-heads-requires : tie.Need-number-heads-requires
+number-heads-requires c κs = search needs
+
+entry-count-requires : tie.Need-entry-count-requires
+entry-count-requires c κs = has-two _ _ (c .before .before .before .before .before .before .before .before .sheet-verdict .ensures) (c .before .before .before .before .before .before .enum-told .given .1)
+
+run-entries-requires : tie.Need-run-entries-requires
+run-entries-requires c κs = let all = c .before .entry-count .ensures in ready _ _ (c .before .before .before .before .before .before .before .before .before .before .sheet-verdict .ensures) (c .before .before .before .before .before .before .before .before .enum-told .given .1) _ (c .before .before .before .before .before .before .before .setting-at .ensures) _ (c .before .before .before .before .fresh-row .ensures) _ (c .before .before .number-heads .ensures) _ (omega (arith, all))
+
+replay-of-requires : tie.Need-replay-of-requires
+replay-of-requires c κs = few-heads _ _ (c .before .before .before .before .before .before .before .before .before .before .before .before .before .sheet-verdict .ensures) (c .before .before .before .before .before .before .before .before .before .before .before .enum-told .given .1) _ (c .before .before .before .before .before .before .before .before .before .before .setting-at .ensures)
+
+returns : tie.Need-returns
+returns c = reported _ _ _ _ (turned-back _ _ (c .before .before .before .sheet-verdict .ensures) _ _ (c .before .v .given .1))
+
+same-length : tie.Need-same-length
+same-length c = search needs
+
+returns-2 : tie.Need-returns-2
+returns-2 c = reported _ _ _ _ (whole-run _ _ (c .before .before .before .before .before .before .before .before .before .before .before .before .before .before .before .before .sheet-verdict .ensures) (c .before .before .before .before .before .before .before .before .before .before .before .before .before .before .enum-told .given .1) _ (c .before .before .before .before .before .before .before .before .before .before .before .before .before .setting-at .ensures) _ (c .before .before .before .before .before .before .before .entry-count .ensures) _ _ (c .before .before .before .before .before .run-entries .ensures) _ _ _ (c .before .before .replay-of .ensures))
+
+pub replay-and-judge-spec : {M : Type 1} → statement M
+replay-and-judge-spec =
+    tie.close
+    (tie.spec
+    sheet-verdict-requires
+    enum-known-v
+    enum-told
+    setting-at-requires
+    cast-fresh-row
+    cast-fresh-row-2
+    fresh-row-requires
+    number-heads-requires
+    entry-count-requires
+    run-entries-requires
+    replay-of-requires
+    returns
+    same-length
+    returns-2)

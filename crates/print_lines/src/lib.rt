@@ -1,0 +1,85 @@
+// The lines that the replay program prints, into a lent buffer: document 01, "The bench sheet, and its neighbours".
+use data_causes::cause_number;
+use print_text::put;
+use print_text::put_decimal;
+use print_text::put_difference;
+use print_text::put_text;
+use protocol::Cause;
+use sheet_results::result_word;
+ghost use mathlib.Core.Path.{_≡_};
+ghost use mathlib.Core.List.{[], _∷_, _++_};
+ghost use Rattle.protocol.specs.Program.{decimal, line, headLines, refusedLine};
+ghost use Rattle.print_lines.specs.Lines.{headLineOf, resultLines};
+ghost use Rattle.print_text.specs.Written.{written, endOf};
+
+// 2²⁸: "Times are microseconds in 28 bits"
+const TIMES: u32 = 268435456;
+
+// "One blank stands between fields"; each line ends with a newline
+const BLANK: u8 = 32;
+
+const NEWLINE: u8 = 10;
+
+// A field, and the blank behind it.
+fn put_field(x: u64, out: &mut [u8], at: usize) -> usize
+    ensures { λ r. ⌜ (now (out .exit) ≡ written (now (out .entry)) at (decimal x ++ (32 ∷ []))) × (r ≡ endOf at (decimal x ++ (32 ∷ []))) ⌝ }
+{
+    let p = put_decimal(out, at, x);
+    put(out, p, BLANK)
+}
+
+// The last field, and the newline behind it.
+fn put_last(x: u64, out: &mut [u8], at: usize) -> usize
+    ensures { λ r. ⌜ (now (out .exit) ≡ written (now (out .entry)) at (line (decimal x ∷ []))) × (r ≡ endOf at (line (decimal x ∷ []))) ⌝ }
+{
+    let p = put_decimal(out, at, x);
+    put(out, p, NEWLINE)
+}
+
+// "head, outcome, candidate, adjuster, adjustment, start reading, correction"
+pub fn put_head_line(results: &[u32], q: u8, out: &mut [u8], at: usize) -> usize
+    ensures { λ r. ⌜ (now (out .exit) ≡ written (now (out .entry)) at (headLineOf (now (results .entry)) q)) × (r ≡ endOf at (headLineOf (now (results .entry)) q)) ⌝ }
+{
+    let w = result_word(results, q, 0);
+    let adjustment = result_word(results, q, 1) % TIMES;
+    let start = result_word(results, q, 2) % TIMES;
+    let p = put_field(q as u64, out, at);
+    let p = put_field(((w >> 24) % 16) as u64, out, p);
+    let p = put_field(((w >> 16) % 16) as u64, out, p);
+    let p = put_field(((w >> 12) % 16) as u64, out, p);
+    let p = put_field(adjustment as u64, out, p);
+    let p = put_field(start as u64, out, p);
+    let p = put_difference(out, p, adjustment, start);
+    put(out, p, NEWLINE)
+}
+
+// The lines of the first n heads.
+fn put_head_lines(results: &[u32], n: u8, out: &mut [u8], at: usize) -> usize
+    ensures { λ r. ⌜ (now (out .exit) ≡ written (now (out .entry)) at (headLines (now (results .entry)) n)) × (r ≡ endOf at (headLines (now (results .entry)) n)) ⌝ }
+{
+    let mut p = at;
+    let mut q: u8 = 0;
+    while q < n {
+        p = put_head_line(results, q, out, p);
+        q += 1;
+    }
+    p
+}
+
+// The heads' lines, "then `premises` and the first broken premise or 0".
+pub fn put_results(results: &[u32], n: u8, premise: u8, out: &mut [u8], at: usize) -> usize
+    ensures { λ r. ⌜ (now (out .exit) ≡ written (now (out .entry)) at (resultLines (now (results .entry)) n premise)) × (r ≡ endOf at (resultLines (now (results .entry)) n premise)) ⌝ }
+{
+    let p = put_head_lines(results, n, out, at);
+    let p = put_text(out, p, b"premises ");
+    put_last(premise as u64, out, p)
+}
+
+// "or only `refused`, number, place"
+pub fn put_refused(c: Cause, place: usize, out: &mut [u8], at: usize) -> usize
+    ensures { λ r. ⌜ (now (out .exit) ≡ written (now (out .entry)) at (refusedLine c place)) × (r ≡ endOf at (refusedLine c place)) ⌝ }
+{
+    let p = put_text(out, at, b"refused ");
+    let p = put_field(cause_number(c) as u64, out, p);
+    put_last(place as u64, out, p)
+}

@@ -1,0 +1,62 @@
+// What a program written in C calls to replay and judge a sheet; include/daisarnica_sheet.h declares it.
+use data_causes::cause_number;
+use judge_sheet::replay_and_judge;
+use protocol::Judged;
+use protocol::Replayed;
+ghost use mathlib.Core.Path.{_≡_};
+ghost use mathlib.Core.List.{_∷_};
+ghost use Prim.Native.Nat.{_^_, _<_};
+ghost use Rattle.protocol.specs.Premises.{judge, judgedNumbers};
+ghost use Rattle.protocol.specs.Results.{replay, replayedNumbers};
+ghost use Rattle.sheet_c.specs.Numbers.{AgreesInNumbers, answerNumbers, judgedNumber, placeIn};
+
+// The judge's numbers behind the replay's cause and place.
+fn numbers_behind(cause: u32, place: u32, j: Judged) -> [u32; 5]
+    requires { ⌜ placeIn (judgedNumbers j) < 2 ^ 32 ⌝ }
+    ensures { λ l. ⌜ l ≡ cause ∷ place ∷ judgedNumbers j ⌝ }
+{
+    match j {
+        Judged::Kept => [cause, place, 0, 0, 0],
+        Judged::Broken(i) => [cause, place, 0, 0, i as u32],
+        Judged::Unjudged(c, p) => [cause, place, cause_number(c), p as u32, 0],
+    }
+}
+
+fn answer_numbers(r: Replayed, j: Judged) -> [u32; 5]
+    requires { ⌜ (placeIn (replayedNumbers r) < 2 ^ 32) × (placeIn (judgedNumbers j) < 2 ^ 32) ⌝ }
+    ensures { λ l. ⌜ l ≡ answerNumbers r j ⌝ }
+{
+    match r {
+        Replayed::Filled => numbers_behind(0, 0, j),
+        Replayed::TurnedBack(c, p) => numbers_behind(cause_number(c), p as u32, j),
+    }
+}
+
+fn judged_number(j: Judged) -> u32
+    ensures { λ k. ⌜ k ≡ judgedNumber j ⌝ }
+{
+    match j {
+        Judged::Kept => 0,
+        Judged::Broken(i) => i as u32,
+        Judged::Unjudged(c, _) => 16 + cause_number(c),
+    }
+}
+
+// Replays a sheet into a lent buffer and judges it; writes the five numbers of both answers and returns the judge's in one.
+#[no_mangle]
+pub extern "C" fn daisarnica_replay_and_judge(
+    sheet: &[u32],
+    out: &mut [u32],
+    answer: &mut [u32; 5],
+) -> u32
+    ensures { λ k. ⌜ (k ≡ judgedNumber (judge (now (sheet .entry))))
+        × (now (answer .exit) ≡ answerNumbers (replay (now (sheet .entry)) (now (out .entry)) .answer) (judge (now (sheet .entry))))
+        × (now (out .exit) ≡ replay (now (sheet .entry)) (now (out .entry)) .buffer)
+        × AgreesInNumbers (now (sheet .entry)) k (now (answer .exit)) (now (out .exit)) ⌝ }
+{
+    let report = replay_and_judge(sheet, out);
+    let replayed = report.replayed;
+    let judged = report.judged;
+    *answer = answer_numbers(replayed, judged);
+    judged_number(judged)
+}

@@ -1,0 +1,41 @@
+-- What follows where the first i entries of a sheet are accepted and the rows are those of the heads after them.
+-- Main results: `heads-few`, `at-most-16`, `valid-history`, `next-taken`, `row-at`; `entry-sized`.
+use mathlib.Core.Path.{_≡_, _∙_, ap}
+use mathlib.Core.Bool.{true}
+use mathlib.Core.List.{List, [], _∷_}
+use Prim.Native.Nat.{ℕ, suc, _≤_, _<_}
+use native.Mathlib.Omega.{arith}
+use lib.Dec.{eqb}
+use lib.ListN.{getD}
+use Rattle.protocol.specs.declared.Verdict.the-variants.{Accepted}
+use Rattle.protocol.specs.Words.{bits, headsFit, settingOf, firstWordFits, entryOf, settingAt, entryAt}
+use Rattle.protocol.specs.Row.{rowOf}
+use Rattle.protocol.specs.Run.{History, recordOf}
+use Rattle.protocol.proofs.Tests.{and-left, and-right}
+use Rattle.protocol.proofs.Tables.{table-at}
+use Rattle.protocol.proofs.Valid.{Taken, Valid, valid-run, valid-taken, heads-fit}
+use Rattle.protocol.proofs.Runs.{goes-on}
+use Rattle.sheet_state.specs.Arrays.{answerAt, eventAt, Stands}
+
+-- head, sender and serial are four bits of a word each
+pub entry-sized : (ws : List ℕ) (i : ℕ) → (entryAt ws i .head < 16) × (entryAt ws i .sender < 16) × (entryAt ws i .serial < 16)
+unfolding entryOf
+entry-sized ws i = (omega arith, omega arith, omega arith)
+
+module _ {ws : List ℕ} {i : ℕ} {s : History} {heads : List (List ℕ)} (now : Stands ws i s heads) where
+  pub heads-few : headsFit (settingAt ws .n) (settingAt ws .f) ≡ true
+  unfolding settingOf firstWordFits
+  heads-few = and-left (headsFit (bits (getD ws 0 0) 27 20) (bits (getD ws 0 0) 19 16)) _ (and-right (eqb (bits (getD ws 0 0) 31 28) 1) _ (now .first-word))
+
+  pub at-most-16 : settingAt ws .n ≤ 16
+  at-most-16 = heads-fit _ _ heads-few .1
+
+  pub valid-history : Valid (settingAt ws) s
+  valid-history = valid-run ws i s (now .is-run)
+
+  -- the entry after them, where it is accepted
+  pub next-taken : answerAt ws i s .verdict ≡ Accepted → Taken (settingAt ws) s (eventAt ws i s)
+  next-taken a = valid-taken (valid-run ws (suc i) (eventAt ws i s ∷ s) (goes-on ws i (now .is-run) a))
+
+  pub row-at : (q : ℕ) → q < 16 → getD heads q [] ≡ rowOf (recordOf (settingAt ws) s q)
+  row-at q l = ap (λ (h : List (List ℕ)). getD h q []) (now .heads-are) ∙ table-at (λ q. rowOf (recordOf (settingAt ws) s q)) 16 q [] l

@@ -1,0 +1,47 @@
+use Rattle.trace_entries.proofs.Lines.{line-is}
+use borrow.Author.Needs.{needs}
+use Rattle.trace_entries.proofs.line_of.Statement.{statement}
+use Rattle.trace_entries.proofs.line_of.Tie as tie
+
+element-copy-out-number-in : tie.Need-element-copy-out-number-in
+element-copy-out-number-in c = search needs
+
+number-in-requires : tie.Need-number-in-requires
+number-in-requires c κs = search needs
+
+element-copy-out-number-in-2 : tie.Need-element-copy-out-number-in-2
+element-copy-out-number-in-2 c = search needs
+
+number-in-requires-2 : tie.Need-number-in-requires-2
+number-in-requires-2 c κs = search needs
+
+element-copy-out-t10 : tie.Need-element-copy-out-t10
+element-copy-out-t10 c = search needs
+
+result-of-requires : tie.Need-result-of-requires
+result-of-requires c κs = search needs
+
+array-read-t10 : tie.Need-array-read-t10
+array-read-t10 c = search needs
+
+cast-t19 : tie.Need-cast-t19
+cast-t19 c = search needs
+
+returns : tie.Need-returns
+returns c =
+    let b = c .before .before in
+    line-is _ _ _ _ _ (b .before .before .number-in .ensures) (b .number-in2 .ensures) (c .result-of .ensures)
+
+pub line-of-spec : {M : Type 1} → statement M
+line-of-spec =
+    tie.close
+    (tie.spec
+    element-copy-out-number-in
+    number-in-requires
+    element-copy-out-number-in-2
+    number-in-requires-2
+    element-copy-out-t10
+    result-of-requires
+    array-read-t10
+    cast-t19
+    returns)

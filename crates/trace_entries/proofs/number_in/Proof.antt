@@ -1,0 +1,19 @@
+use Rattle.trace_entries.proofs.Lines.{none-in, some-in}
+use borrow.Author.Needs.{needs}
+use Rattle.trace_entries.proofs.number_in.Statement.{statement}
+use Rattle.trace_entries.proofs.number_in.Tie as tie
+
+sub-t4 : tie.Need-sub-t4
+sub-t4 c = search needs
+
+cast-t6 : tie.Need-cast-t6
+cast-t6 c = search needs
+
+returns : tie.Need-returns
+returns c = none-in _ (c .if1 .taken)
+
+returns-2 : tie.Need-returns-2
+returns-2 c = some-in _ (c .if1 .left)
+
+pub number-in-spec : {M : Type 1} → statement M
+number-in-spec = tie.close (tie.spec sub-t4 cast-t6 returns returns-2)

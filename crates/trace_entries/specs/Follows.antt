@@ -1,0 +1,41 @@
+-- What a trace keeps from entry to entry, and what one entry of it promises.
+use mathlib.Core.Path.{_≡_}
+use mathlib.Core.Bool.{true}
+use mathlib.Core.List.{List}
+use Prim.Native.Nat.{ℕ, _+_, _≤_, _<_}
+use lib.ListN.{length}
+use Rattle.protocol.specs.declared.OptNumber.{OptNumber}
+use Rattle.protocol.specs.declared.HeadRecord.{HeadRecord}
+use Rattle.protocol.specs.declared.Entry.{Entry}
+use Rattle.protocol.specs.declared.Verdict.the-variants.{Accepted}
+use Rattle.protocol.specs.Words.{entryCount}
+use Rattle.protocol.specs.Record.{numberOr0, recordInRange}
+use Rattle.protocol.specs.Row.{numberPlus1, rowOf}
+use Rattle.protocol.specs.Causes.{sheetVerdict}
+use Rattle.protocol.specs.Run.{History, lastTime}
+use Rattle.sheet_state.specs.Arrays.{Stands, Carries}
+use Rattle.trace_entries.specs.declared.Line.{Line}
+use Rattle.trace_entries.specs.declared.Traced.{Traced}
+use Rattle.trace_entries.specs.declared.Traced.the-variants.{After}
+use Rattle.trace_entries.specs.Trace.{lineOf}
+
+-- the sheet's first i entries are accepted; the heads' rows, the frames sent and the real time are those after them
+pub record Follows (ws : List ℕ) (i : ℕ) (heads : List (List ℕ)) (choices carried : List ℕ) (time : ℕ) : Type 0 where
+  pub sheet : sheetVerdict ws ≡ Accepted
+  pub reached : i ≤ entryCount ws
+  pub past : History
+  pub stands : Stands ws i past heads
+  pub carries : Carries past choices carried
+  pub time-is : time ≡ lastTime past
+
+-- after entry i is shown, what is left is that of one entry more
+abbrev pub GoesOn : List ℕ → ℕ → Traced → List (List ℕ) → List ℕ → List ℕ → Type 0
+GoesOn ws i t heads choices carried = (l : Line) → t ≡ After l → Follows ws (i + 1) heads choices carried (l .time .0)
+
+-- k is the number that a row has as w
+abbrev pub IsNumber : ℕ → OptNumber → Type 0
+IsNumber w k = (m : OptNumber) → w ≡ numberPlus1 m → numberOr0 m < 16 → k ≡ m
+
+-- l is the line of the entry, for the record in its ranges that the row is of
+abbrev pub IsLine : Entry → List ℕ → Line → Type 0
+IsLine e row l = (r : HeadRecord) → row ≡ rowOf r → recordInRange r ≡ true → length (r .senders) ≡ 16 → l ≡ lineOf e r

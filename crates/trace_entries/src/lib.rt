@@ -1,0 +1,111 @@
+// What the program trace shows of an entry: the entry, and where its head stands after it.
+use head_result::result_of;
+use head_row::fresh_row;
+use judge_run::number_heads;
+use protocol::Cause;
+use protocol::Entry;
+use protocol::OptNumber;
+use protocol::Reading;
+use protocol::RealTime;
+use protocol::Verdict;
+use sheet_entry::entry_verdict;
+use sheet_entry::take_entry;
+use sheet_state::seat;
+use sheet_words::entry_count;
+use sheet_words::read_entry;
+use sheet_words::setting_at;
+ghost use mathlib.Core.Path.{_≡_};
+ghost use lib.ListN.{replicate};
+ghost use Rattle.protocol.specs.declared.Verdict.the-variants.{Accepted};
+ghost use Rattle.protocol.specs.Causes.{sheetVerdict};
+ghost use Rattle.trace_entries.specs.Trace.{traced};
+ghost use Rattle.trace_entries.specs.Follows.{Follows, GoesOn, IsNumber, IsLine};
+
+// An entry, with its head's candidate, adjuster, adjustment and outcome after it.
+pub struct Line {
+    pub time: RealTime,
+    pub head: u8,
+    pub action: u8,
+    pub candidate: OptNumber,
+    pub adjuster: OptNumber,
+    pub adjustment: Reading,
+    pub outcome: u8,
+}
+
+// After an entry; where the run was refused; past the last entry.
+pub enum Traced {
+    After(Line),
+    RefusedAt(Cause, usize),
+    Ended,
+}
+
+fn number_in(w: u32) -> OptNumber
+    ensures { λ k. ⌜ IsNumber w k ⌝ }
+{
+    if w == 0 {
+        OptNumber::NoNumber
+    } else {
+        OptNumber::SomeNumber(((w - 1) % 256) as u8)
+    }
+}
+
+fn line_of(e: Entry, row: &[u32; 80]) -> Line
+    ensures { λ l. ⌜ IsLine e (now (row .entry)) l ⌝ }
+{
+    let time = e.time;
+    let candidate = number_in(row[2]);
+    let adjuster = number_in(row[4]);
+    let adjustment = Reading(row[6]);
+    let x = result_of(row);
+    Line {
+        time,
+        head: e.head,
+        action: e.action,
+        candidate,
+        adjuster,
+        adjustment,
+        outcome: (x[0] % 256) as u8,
+    }
+}
+
+// The rows before the first entry of an accepted sheet; no frame is sent yet, and the real time is 0.
+pub fn first_heads(sheet: &[u32]) -> [[u32; 80]; 16]
+    requires { ⌜ sheetVerdict (now sheet) ≡ Accepted ⌝ }
+    ensures { λ heads. ⌜ Follows (now (sheet .entry)) 0 heads (replicate 512 0) (replicate 512 0) 0 ⌝ }
+{
+    let g = setting_at(sheet);
+    let fresh = fresh_row(g.n as u32, g.f as u32, 0);
+    let mut heads = [fresh; 16];
+    number_heads(&mut heads);
+    heads
+}
+
+// Entry i of a sheet and its head after it, or its refusal, from what the entries before it left.
+pub fn trace_next(
+    sheet: &[u32],
+    i: usize,
+    time: u32,
+    heads: &mut [[u32; 80]; 16],
+    choices: &mut [u8; 512],
+    carried: &mut [u32; 512],
+) -> Traced
+    requires { ⌜ Follows (now sheet) i (now heads) (now choices) (now carried) time ⌝ }
+    ensures { λ t. ⌜ (t ≡ traced (now (sheet .entry)) i) × GoesOn (now (sheet .entry)) i t (now (heads .exit)) (now (choices .exit)) (now (carried .exit)) ⌝ }
+{
+    if i < entry_count(sheet) {
+        let g = setting_at(sheet);
+        let r = read_entry(sheet, g.n, i);
+        let e = r.entry;
+        let v = entry_verdict(e, r.fits, time, heads);
+        match v {
+            Verdict::Refused(c) => Traced::RefusedAt(c, 2 + 3 * i),
+            Verdict::Accepted => {
+                take_entry(e, heads, choices, carried);
+                let h = seat(e.head);
+                Traced::After(line_of(e, &heads[h]))
+            }
+        }
+    } else {
+        Traced::Ended
+    }
+}
