@@ -2,13 +2,13 @@
 // caller lends, an action and a frame are arrays of numbers, and each cause is its number, 0 for none.
 mod numbers;
 
-use data_causes::cause_number;
+use data_values::cause_number;
 use head_by_value::counter_reading;
 use head_causes::row_verdict;
 use head_ranges::row_in_range;
 use head_result::result_of;
 use head_row::fresh_row;
-use head_step::take;
+use head_step::effect;
 use numbers::correction_of;
 use numbers::frame_numbers;
 use numbers::fresh_verdict;
@@ -53,7 +53,7 @@ pub extern "C" fn daisarnica_action(
     let v = row_verdict(head, i);
     match v {
         Verdict::Accepted => {
-            let s = take(head, i);
+            let s = effect(head, i);
             *frame = frame_numbers(s);
             0
         }

@@ -43,7 +43,7 @@ pub fn word_at(bytes: &[u8], i: usize) -> u32
 }
 
 // The words of a sheet of at most 49,160 bytes; zeros follow them.
-pub fn words_of(bytes: &[u8]) -> [u32; 12290]
+pub fn big_endian(bytes: &[u8]) -> [u32; 12290]
     ensures { λ r. ⌜ 12290 ≡ length r ⌝ }
     ensures { λ r. ⌜ (length (now (bytes .entry)) ≤ 49160 → take (length (now (bytes .entry)) / 4) r ≡ bigEndian (now (bytes .entry))) ⌝ }
 {

@@ -1,4 +1,4 @@
--- Loops over the numbers below a bound, and tests that are asked only where another passes.
+-- Loops over the numbers below a bound, and tests that hold only where another does.
 use mathlib.Core.Path.{_≡_, refl}
 use mathlib.Core.Bool.{Bool, true, false, not, _||_}
 use Prim.Native.Nat.{ℕ, _+_, _≤_, _<_}
@@ -16,12 +16,12 @@ all-fails n k p h e = cases (allBelow n p) (λ t. absurd-bool (all-below n p t k
 pub all-until : (n k : ℕ) (p : ℕ → Bool) → k ≤ n → n ≤ k → allBelow k p ≡ true → allBelow n p ≡ true
 all-until n k p h l e = let same : n ≡ k = omega arith in rw same e
 
-pub asked-or : (a b : Bool) → (not a || b) ≡ (a ⇒ b)
-asked-or true b = refl
-asked-or false b = refl
+pub or-if : (a b : Bool) → (not a || b) ≡ (a ⇒ b)
+or-if true b = refl
+or-if false b = refl
 
-pub asked : (a b : Bool) → a ≡ true → (a ⇒ b) ≡ b
-asked a b e = rw e refl
+pub if-true : (a b : Bool) → a ≡ true → (a ⇒ b) ≡ b
+if-true a b e = rw e refl
 
-pub unasked : (a b : Bool) → a ≡ false → (a ⇒ b) ≡ true
-unasked a b e = rw e refl
+pub if-false : (a b : Bool) → a ≡ false → (a ⇒ b) ≡ true
+if-false a b e = rw e refl

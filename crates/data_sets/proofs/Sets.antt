@@ -108,12 +108,12 @@ same-test true b f g = sym (f refl)
 same-test false true f g = g refl
 same-test false false f g = refl
 
--- the heads that are asked for are all in the set if each of them passes
-pub set-all : (p asked : ℕ → Bool) → hasAll (setOf p) (setOf asked) ≡ allBelow 16 (λ i. asked i ⇒ p i)
-set-all p asked = rw (set-and 16 p asked) (same-test (eqb both (setOf asked)) (allBelow 16 (λ i. asked i ⇒ p i)) to from)
+-- the heads of a second test are all in the set if each of them passes the first
+pub set-all : (p heads : ℕ → Bool) → hasAll (setOf p) (setOf heads) ≡ allBelow 16 (λ i. heads i ⇒ p i)
+set-all p heads = rw (set-and 16 p heads) (same-test (eqb both (setOf heads)) (allBelow 16 (λ i. heads i ⇒ p i)) to from)
   where
     both : ℕ
-    both = setOf (λ i. p i && asked i)
+    both = setOf (λ i. p i && heads i)
 
     passes : (a b : Bool) → (a && b) ≡ b → (b ⇒ a) ≡ true
     passes true true e = refl
@@ -126,10 +126,10 @@ set-all p asked = rw (set-and 16 p asked) (same-test (eqb both (setOf asked)) (a
     passed false true e = e
     passed false false e = refl
 
-    to : eqb both (setOf asked) ≡ true → allBelow 16 (λ i. asked i ⇒ p i) ≡ true
+    to : eqb both (setOf heads) ≡ true → allBelow 16 (λ i. heads i ⇒ p i) ≡ true
     to e =
-        below-all 16 (λ j. asked j ⇒ p j) (λ i l. passes (p i) (asked i)
-        (sym (set-has 16 (λ j. p j && asked j) i l) ∙ ap (λ (m : ℕ). eqb (m / 2 ^ i % 2) 1) (eqb-true both (setOf asked) e) ∙ set-has 16 asked i l))
+        below-all 16 (λ j. heads j ⇒ p j) (λ i l. passes (p i) (heads i)
+        (sym (set-has 16 (λ j. p j && heads j) i l) ∙ ap (λ (m : ℕ). eqb (m / 2 ^ i % 2) 1) (eqb-true both (setOf heads) e) ∙ set-has 16 heads i l))
 
-    from : allBelow 16 (λ i. asked i ⇒ p i) ≡ true → eqb both (setOf asked) ≡ true
-    from e = eq-eqb both (setOf asked) (set-ext 16 (λ j. p j && asked j) asked (λ i l. passed (p i) (asked i) (all-below 16 (λ j. asked j ⇒ p j) e i l)))
+    from : allBelow 16 (λ i. heads i ⇒ p i) ≡ true → eqb both (setOf heads) ≡ true
+    from e = eq-eqb both (setOf heads) (set-ext 16 (λ j. p j && heads j) heads (λ i l. passed (p i) (heads i) (all-below 16 (λ j. heads j ⇒ p j) e i l)))

@@ -15,6 +15,6 @@ setOf p = setBelow 16 p
 abbrev pub withHead : ℕ → ℕ → ℕ
 withHead m q = bitOr m (2 ^ (q % 16))
 
--- the heads that are asked for are all in the set
+-- these heads are all in the set
 abbrev pub hasAll : ℕ → ℕ → Bool
-hasAll m asked = eqb (bitAnd m asked) asked
+hasAll m heads = eqb (bitAnd m heads) heads

@@ -9,9 +9,9 @@ pub fn with_head(m: u16, q: u8) -> u16
     m | 1 << (q % 16)
 }
 
-// Whether the heads that are asked for are all in the set.
-pub fn has_all(m: u16, asked: u16) -> bool
-    ensures { λ b. ⌜ b ≡ hasAll m asked ⌝ }
+// Whether these heads are all in the set.
+pub fn has_all(m: u16, heads: u16) -> bool
+    ensures { λ b. ⌜ b ≡ hasAll m heads ⌝ }
 {
-    m & asked == asked
+    m & heads == heads
 }

@@ -1,7 +1,10 @@
-// A reading or a number that may be missing: whether it is there, and its value, 0 where there is none.
+// What a value of an enum stands for as a number. A reading or a number that may be missing: whether it is there, and its value,
+// 0 where there is none; a cause: document 01's number for it.
+use protocol::Cause;
 use protocol::OptNumber;
 use protocol::OptReading;
 ghost use mathlib.Core.Path.{_≡_};
+ghost use Rattle.protocol.specs.Causes.{causeNumber};
 ghost use Rattle.protocol.specs.Record.{isNumber, isReading, numberOr0, readingOr0};
 
 pub fn is_number(k: OptNumber) -> bool
@@ -37,5 +40,23 @@ pub fn reading_or_0(x: OptReading) -> u32
     match x {
         OptReading::NoReading => 0,
         OptReading::SomeReading(t) => t.0,
+    }
+}
+
+pub fn cause_number(c: Cause) -> u32
+    ensures { λ k. ⌜ k ≡ causeNumber c ⌝ }
+{
+    match c {
+        Cause::TooManyWords => 1,
+        Cause::BadLength => 2,
+        Cause::BadFirstWord => 3,
+        Cause::BadSecondWord => 4,
+        Cause::ShortBuffer => 5,
+        Cause::BadEntry => 6,
+        Cause::TimeFell => 7,
+        Cause::ReadingFell => 8,
+        Cause::ActionClosed => 9,
+        Cause::BadRecord => 10,
+        Cause::CounterTooFar => 11,
     }
 }

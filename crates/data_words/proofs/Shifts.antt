@@ -1,4 +1,4 @@
--- Laws of a number that is shifted right by k places, that is divided by the kth power of 2.
+-- Laws of a number that is shifted right by k bits, that is divided by the kth power of 2.
 use mathlib.Core.Path.{_≡_, refl}
 use mathlib.Core.Bool.{Bool, true, false}
 use Prim.Native.Nat.{ℕ, _<_, _≤_, _*_, _/_, _^_}

@@ -15,7 +15,7 @@ use protocol::Setting;
 const TIMES: u32 = 268435456;
 
 // "the top four bits are the kind"
-pub fn kind(w: u32) -> u32
+pub fn kind_of(w: u32) -> u32
     ensures { λ r. ⌜ r ≡ kindOf w ⌝ }
 {
     (w >> 28) % 16
@@ -71,14 +71,14 @@ pub fn first_word_fits(a: u32) -> bool
     ensures { λ r. ⌜ r ≡ firstWordFits a ⌝ }
 {
     let g = setting_of(a, 0);
-    (kind(a) == 1) & (heads_fit(g.n, g.f) & none_from(g.correct, g.n))
+    (kind_of(a) == 1) & (heads_fit(g.n, g.f) & none_from(g.correct, g.n))
 }
 
 // cause 4: "second word not kind 2"
 pub fn second_word_fits(b: u32) -> bool
     ensures { λ r. ⌜ r ≡ secondWordFits b ⌝ }
 {
-    kind(b) == 2
+    kind_of(b) == 2
 }
 
 // "kind 3 with the real time, kind 4 with the head's reading (of the clock in use)",

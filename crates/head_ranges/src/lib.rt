@@ -41,7 +41,7 @@ pub fn heads_fit(n: u32, f: u32) -> bool
     2 <= n && (n <= 16 && f < (n + 1) / 2)
 }
 
-fn bench_fits(n: u32, f: u32, own: u32) -> bool
+fn own_fits(n: u32, f: u32, own: u32) -> bool
     ensures { λ b. ⌜ b ≡ (headsFit n f && ltb own n) ⌝ }
 {
     heads_fit(n, f) && own < n
@@ -112,7 +112,7 @@ pub fn row_in_range(row: &[u32; 80]) -> bool
 {
     let n = row[7];
     row_fits(row)
-        && (bench_fits(n, row[8], row[9])
+        && (own_fits(n, row[8], row[9])
             && (times_fit(row[0], row[6], row[4])
                 && (phase_fits(n, row[2], row[3])
                     && (phase_fits(n, row[4], row[5])

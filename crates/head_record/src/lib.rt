@@ -95,7 +95,7 @@ fn put_sender(row: &mut [u32; 80], p: usize, k: Sender)
     row[64 + p] = number_plus_1(adjusted);
 }
 
-// What is kept by sender, in its places.
+// What is kept by sender, each number at its index.
 fn put_senders(row: &mut [u32; 80], senders: [Sender; 16])
     ensures { λ _. ⌜ Completes (now (row .entry)) senders (now (row .exit)) ⌝ }
 {

@@ -53,7 +53,7 @@ for-both : (P : Kind → Type 0) → P votes → P adjusts → (k : Kind) → P 
 for-both P v a votes = v
 for-both P v a adjusts = a
 
--- what holds of every place, and of the element written, holds of every place after the write
+-- what holds at every index, and of the element written, holds at every index after the write
 set-holds : (P : Sender → Type 0) (l : List Sender) (p : ℕ) (s : Sender) → P s → ((q : ℕ) → P (getD l q noSender))
     → (q : ℕ) → P (getD (set l p s) q noSender)
 set-holds P [] p s h k q = k q

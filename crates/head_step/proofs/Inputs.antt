@@ -1,5 +1,5 @@
 -- The action that an input's numbers ask for, taken with its reading as the last reading.
--- Main results: `action-is`, `only-look`, `take-acts`, `look-acts`; `carried-written`, `carried-below`.
+-- Main results: `action-is`, `only-look`, `effect-acts`, `look-acts`; `carried-written`, `carried-below`.
 use mathlib.Core.Path.{_≡_, refl, sym, _∙_, ap, subst}
 use mathlib.Core.Bool.{cond}
 use mathlib.Core.List.{List}
@@ -58,10 +58,10 @@ module _ (i : Input) where
       (λ n0. List·getD-eq-default (actionsOf i) Look
       (five-further 5 (i .action) (five-further 0 (i .action) (omega arith) (eqb-false _ _ n0) n1 n2 n3 n4) n5 n6 n7 n8 n9))
 
-  pub take-acts : (sized : InputSized i) (row row' : List ℕ) (x : Sent) (a : Action) → actionOf i ≡ a
+  pub effect-acts : (sized : InputSized i) (row row' : List ℕ) (x : Sent) (a : Action) → actionOf i ≡ a
       → Acts (λ (r : HeadRecord). effect r a) (set row 0 (i .reading)) row' x
       → Acts (λ (r : HeadRecord). effect (withLast r (reading (i .reading))) (actionOf i)) row row' x
-  take-acts sized row row' x a e acts r is fit =
+  effect-acts sized row row' x a e acts r is fit =
       subst (λ (b : Action). Gives (effect (withLast r (reading (i .reading))) b) row' x) (sym e)
       (acts (withLast r (reading (i .reading))) (ap (λ (l : List ℕ). set l 0 (i .reading)) is ∙ last-written r (reading (i .reading)))
       (last-fits fit (reading (i .reading)) (sized .reading)))
@@ -69,4 +69,4 @@ module _ (i : Input) where
   pub look-acts : (sized : InputSized i) (row : List ℕ) (x : Sent) → actionOf i ≡ Look → x ≡ sentOf NoFrame
       → Acts (λ (r : HeadRecord). effect (withLast r (reading (i .reading))) (actionOf i)) row (set row 0 (i .reading)) x
   unfolding effect
-  look-acts sized row x e none = take-acts sized row _ x Look e (λ r is fit. (is, none))
+  look-acts sized row x e none = effect-acts sized row _ x Look e (λ r is fit. (is, none))

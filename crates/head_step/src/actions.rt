@@ -1,10 +1,10 @@
 // What each of the ten actions does to a head's row, its reading being the last reading already.
-use crate::sending::adjust;
-use crate::sending::index;
-use crate::sending::lead;
-use crate::sending::no_frame;
-use crate::sending::propose;
-use crate::sending::vote;
+use crate::frames::adjust;
+use crate::frames::head_index;
+use crate::frames::lead;
+use crate::frames::no_frame;
+use crate::frames::propose;
+use crate::frames::vote;
 use head_open::has_mark;
 use head_open::with_mark;
 use protocol::Sent;
@@ -39,7 +39,7 @@ pub fn start_delivered(row: &mut [u32; 80], p: u32) -> Sent
     if has_mark(row[1], 32) {
         return no_frame();
     }
-    row[16 + index(p)] = std::num::wrapping_add_u32(row[0], 1);
+    row[16 + head_index(p)] = std::num::wrapping_add_u32(row[0], 1);
     lead(row)
 }
 
@@ -75,7 +75,7 @@ pub fn vote_delivered(row: &mut [u32; 80], p: u32, serial: u32, c: u32, x: u32) 
     ensures { λ s. ⌜ (p < 16 → serial < 16 → c < 16 → (y : OptReading) → x ≡ readingPlus1 y → readingOr0 y < 2 ^ 28
         → Acts (λ (r : HeadRecord). effect r (VoteDelivered p serial c y)) (now (row .entry)) (now (row .exit)) s) ⌝ }
 {
-    let q = index(p);
+    let q = head_index(p);
     if passed_over(has_mark(row[1], 8), row[48 + q], serial) {
         return no_frame();
     }
@@ -105,7 +105,7 @@ pub fn adjust_delivered(row: &mut [u32; 80], p: u32, serial: u32, a: u32, x: u32
     ensures { λ s. ⌜ (p < 16 → serial < 16 → a < 16
         → Acts (λ (r : HeadRecord). effect r (AdjustDelivered p serial a (reading x))) (now (row .entry)) (now (row .exit)) s) ⌝ }
 {
-    let q = index(p);
+    let q = head_index(p);
     if passed_over(has_mark(row[1], 32), row[64 + q], serial) {
         return no_frame();
     }

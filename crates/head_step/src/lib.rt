@@ -1,6 +1,6 @@
 // One head's step, in place on its row: what an accepted action does, for a board and for the run of a sheet.
 mod actions;
-mod sending;
+mod frames;
 
 use actions::adjust_close;
 use actions::adjust_delivered;
@@ -11,9 +11,9 @@ use actions::start_sent;
 use actions::vote_close;
 use actions::vote_delivered;
 use actions::vote_turn;
+use frames::no_frame;
 use protocol::Input;
 use protocol::Sent;
-use sending::no_frame;
 ghost use mathlib.Core.Path.{_≡_};
 ghost use mathlib.Core.Bool.{cond};
 ghost use Prim.Native.Nat.{_+_, _%_, _^_};
@@ -35,7 +35,7 @@ fn reading_plus_1(none: bool, carried: u32) -> u32
 }
 
 // What an accepted action does: "Every accepted action makes its reading the last reading".
-pub fn take(row: &mut [u32; 80], i: Input) -> Sent
+pub fn effect(row: &mut [u32; 80], i: Input) -> Sent
     ensures { λ s. ⌜ (InputSized i
         → Acts (λ (r : HeadRecord). effect (withLast r (reading (i .reading))) (actionOf i)) (now (row .entry)) (now (row .exit)) s) ⌝ }
 {

@@ -1,14 +1,19 @@
-// Premise 1, and the first broken premise.
+// At the end of a run: premises 1 and 4, and the first broken premise.
 use data_words::is_correct;
+use head_open::has_mark;
 use protocol::Judged;
 use protocol::Setting;
+use sheet_state::head_index;
 ghost use mathlib.Core.Path.{_≡_};
-ghost use mathlib.Core.Bool.{cond};
-ghost use mathlib.Core.List.{[], _∷_};
-ghost use Prim.Native.Nat.{_≤_};
-ghost use Rattle.protocol.specs.Premises.{premise1, firstBroken};
+ghost use mathlib.Core.Bool.{cond, _&&_};
+ghost use mathlib.Core.List.{List, [], _∷_};
+ghost use Prim.Native.Nat.{ℕ, _≤_};
 ghost use Rattle.protocol.specs.Base.{countBelow};
-ghost use Rattle.protocol.specs.Words.{isCorrect};
+ghost use Rattle.protocol.specs.Words.{isCorrect, settingAt};
+ghost use Rattle.protocol.specs.Step.{hasMark};
+ghost use Rattle.protocol.specs.Run.{History};
+ghost use Rattle.protocol.specs.Premises.{premise1, premise4, firstBroken};
+ghost use Rattle.sheet_state.specs.Arrays.{Stands};
 
 fn one_if(b: bool) -> u8
     ensures { λ k. ⌜ k ≡ cond b 1 0 ⌝ }
@@ -33,6 +38,27 @@ pub fn enough_correct(g: Setting) -> bool
     ensures { λ b. ⌜ b ≡ premise1 g ⌝ }
 {
     g.n as u16 <= correct_heads(g) as u16 + g.f as u16
+}
+
+// A head's marks after actions 6, 7 and 9.
+fn has_ended(m: u32) -> bool
+    ensures { λ b. ⌜ b ≡ (hasMark m 8 && (hasMark m 16 && hasMark m 32)) ⌝ }
+{
+    has_mark(m, 8) && (has_mark(m, 16) && has_mark(m, 32))
+}
+
+// "4. Every correct head takes actions 6, 7 and 9"
+pub fn all_ended(g: Setting, heads: &[[u32; 80]; 16]) -> bool
+    ensures { λ b. ⌜ ((ws : List ℕ) (i : ℕ) (s : History) → Stands ws i s (now (heads .entry)) → g ≡ settingAt ws → b ≡ premise4 g s) ⌝ }
+{
+    let mut q: u8 = 0;
+    while q < g.n {
+        if is_correct(g, q) & !has_ended(heads[head_index(q)][1]) {
+            return false;
+        }
+        q += 1;
+    }
+    true
 }
 
 // The first broken premise.

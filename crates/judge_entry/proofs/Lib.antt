@@ -1,4 +1,3 @@
 -- What one more entry changes in what the judge keeps.
 pub mod Steady
-pub mod Ended
-pub mod Watches
+pub mod Actions

@@ -1,4 +1,4 @@
--- Premise 2 of an entry with all of its head's entries before it, by the least lead and the least lag.
+-- Premise 2 of an entry with all of its head's entries before it, by the least gain and the least loss.
 -- Main results: `differs-next`, `steady-next`.
 use mathlib.Core.Path.{_≡_, refl, sym, _∙_, ap, ap₂}
 use mathlib.Core.Bool.{Bool, true, false, cond, not, _&&_}
@@ -25,9 +25,9 @@ use Rattle.protocol.proofs.Valid.{Valid, start, more}
 use Rattle.sheet_state.specs.Arrays.{answerAt, eventAt, Stands}
 use Rattle.sheet_state.proofs.Standing.{entry-sized, valid-history, next-taken}
 use Rattle.data_sets.proofs.Sets.{same-test}
-use Rattle.judge_premise_2.specs.Drift.{leadOf, lagOf, lesserOf, staysSteady}
+use Rattle.judge_premise_2.specs.Drift.{gainOf, lossOf, lesserOf, staysSteady}
 use Rattle.judge_premise_3.proofs.Accepted.{entry-time}
-use Rattle.judge_entry.specs.Watched.{leastOf, leads, lags, Differs}
+use Rattle.judge_entry.specs.State.{leastOf, gains, losses, DriftState}
 
 -- SIGNED NUMBERS
 
@@ -90,18 +90,18 @@ le-lesser x y z = rw (less-test y z) (go (leZ z y) refl)
 -- TWO ENTRIES
 
 module _ (drift : ℕ) (e : Entry) (slack : ℕ) where
-  lead-is : Difference (1000000 * e .reading .0) ((1000000 + drift) * e .time .0 + slack) (leadOf drift e slack)
-  lead-is = difference-of (1000000 * e .reading .0) ((1000000 + drift) * e .time .0 + slack)
+  gain-is : Difference (1000000 * e .reading .0) ((1000000 + drift) * e .time .0 + slack) (gainOf drift e slack)
+  gain-is = difference-of (1000000 * e .reading .0) ((1000000 + drift) * e .time .0 + slack)
 
-  lag-is : Difference (1000000 * e .time .0) (1000000 * e .reading .0 + drift * e .time .0 + slack) (lagOf drift e slack)
-  lag-is = difference-of (1000000 * e .time .0) (1000000 * e .reading .0 + drift * e .time .0 + slack)
+  loss-is : Difference (1000000 * e .time .0) (1000000 * e .reading .0 + drift * e .time .0 + slack) (lossOf drift e slack)
+  loss-is = difference-of (1000000 * e .time .0) (1000000 * e .reading .0 + drift * e .time .0 + slack)
 
 -- premise 2 of d and e, d the earlier
 steady-pair : (drift : ℕ) (d e : Entry) → d .time .0 ≤ e .time .0
-    → isSteady drift d e ≡ (leZ (leadOf drift e 1000000) (leadOf drift d 0) && leZ (lagOf drift e 1000000) (lagOf drift d 0))
+    → isSteady drift d e ≡ (leZ (gainOf drift e 1000000) (gainOf drift d 0) && leZ (lossOf drift e 1000000) (lossOf drift d 0))
 steady-pair drift d e h =
     in-numbers (e .time .0) (e .reading .0) (d .time .0) (d .reading .0) (e .time .0 - d .time .0) (omega arith)
-    ∙ sym (ap₂ _&&_ (le-difference (lead-is drift e 1000000) (lead-is drift d 0)) (le-difference (lag-is drift e 1000000) (lag-is drift d 0)))
+    ∙ sym (ap₂ _&&_ (le-difference (gain-is drift e 1000000) (gain-is drift d 0)) (le-difference (loss-is drift e 1000000) (loss-is drift d 0)))
   where
     in-numbers : (t b s a m : ℕ) → t ≡ s + m
         → leb (1000000 * distance (b + s) (a + t)) (drift * m + 1000000)
@@ -132,27 +132,27 @@ module _ (drift : ℕ) (e : Entry) (q : ℕ) (ft : e .time .0 < 2 ^ 28) (fr : e 
   withAll s = all (λ d. eqb (d .entry .head) q ⇒ isSteady drift (d .entry) e) s
 
   abbrev up-to : ℤ → Bool
-  up-to = leZ (leadOf drift e 1000000)
+  up-to = leZ (gainOf drift e 1000000)
 
   abbrev down-to : ℤ → Bool
-  down-to = leZ (lagOf drift e 1000000)
+  down-to = leZ (lossOf drift e 1000000)
 
   steady-with-all : (s : History) → Until (e .time .0) s
-      → withAll s ≡ (up-to (leastOf (λ x. leadOf drift x 0) s q) && down-to (leastOf (λ x. lagOf drift x 0) s q))
+      → withAll s ≡ (up-to (leastOf (λ x. gainOf drift x 0) s q) && down-to (leastOf (λ x. lossOf drift x 0) s q))
   unfolding leastOf
   steady-with-all [] u =
       sym (and-both
-      (le-difference (lead-is drift e 1000000) (difference-pos (2 ^ 62)) ∙ le-leb _ (2 ^ 62 + ((1000000 + drift) * e .time .0 + 1000000)) (omega arith))
-      (le-difference (lag-is drift e 1000000) (difference-pos (2 ^ 62))
+      (le-difference (gain-is drift e 1000000) (difference-pos (2 ^ 62)) ∙ le-leb _ (2 ^ 62 + ((1000000 + drift) * e .time .0 + 1000000)) (omega arith))
+      (le-difference (loss-is drift e 1000000) (difference-pos (2 ^ 62))
       ∙ le-leb _ (2 ^ 62 + (1000000 * e .reading .0 + drift * e .time .0 + 1000000)) (omega arith)))
   steady-with-all (d ∷ s) u =
       let ih = steady-with-all s (u .1) in cases (eqb (d .entry .head) q) (λ t. rw t (at-head ih)) (λ t. rw t ih)
     where
       x : ℤ
-      x = leastOf (λ x. leadOf drift x 0) s q
+      x = leastOf (λ x. gainOf drift x 0) s q
 
       y : ℤ
-      y = leastOf (λ x. lagOf drift x 0) s q
+      y = leastOf (λ x. lossOf drift x 0) s q
 
       four : (a b c f : Bool) → ((a && b) && (c && f)) ≡ ((c && a) && (f && b))
       four true true true true = refl
@@ -164,31 +164,31 @@ module _ (drift : ℕ) (e : Entry) (q : ℕ) (ft : e .time .0 < 2 ^ 28) (fr : e 
       four false b true f = refl
       four false b false f = refl
 
-      lead : ℤ
-      lead = leadOf drift (d .entry) 0
+      gain : ℤ
+      gain = gainOf drift (d .entry) 0
 
-      lag : ℤ
-      lag = lagOf drift (d .entry) 0
+      loss : ℤ
+      loss = lossOf drift (d .entry) 0
 
-      at-head : withAll s ≡ (up-to x && down-to y) → (isSteady drift (d .entry) e && withAll s) ≡ (up-to (lesserOf x lead) && down-to (lesserOf y lag))
+      at-head : withAll s ≡ (up-to x && down-to y) → (isSteady drift (d .entry) e && withAll s) ≡ (up-to (lesserOf x gain) && down-to (lesserOf y loss))
       at-head ih =
-          ap₂ _&&_ (steady-pair drift (d .entry) e (u .0)) ih ∙ four (up-to lead) (down-to lag) (up-to x) (down-to y)
-          ∙ sym (ap₂ _&&_ (le-lesser (leadOf drift e 1000000) x lead) (le-lesser (lagOf drift e 1000000) y lag))
+          ap₂ _&&_ (steady-pair drift (d .entry) e (u .0)) ih ∙ four (up-to gain) (down-to loss) (up-to x) (down-to y)
+          ∙ sym (ap₂ _&&_ (le-lesser (gainOf drift e 1000000) x gain) (le-lesser (lossOf drift e 1000000) y loss))
 
 -- ONE MORE EVENT
 
 module _ (e : Event) (s : History) (small : e .entry .head < 16) where
-  abbrev place : ℕ
-  place = e .entry .head % 16
+  abbrev index : ℕ
+  index = e .entry .head % 16
 
   least-next : (x : Entry → ℤ)
-      → set (table (leastOf x s) 0 16) place (lesserOf (getD (table (leastOf x s) 0 16) place (pos 0)) (x (e .entry))) ≡ table (leastOf x (e ∷ s)) 0 16
+      → set (table (leastOf x s) 0 16) index (lesserOf (getD (table (leastOf x s) 0 16) index (pos 0)) (x (e .entry))) ≡ table (leastOf x (e ∷ s)) 0 16
   unfolding leastOf
   least-next x =
-      set-table (leastOf x s) (leastOf x (e ∷ s)) 16 place _ (pos 0) (omega arith)
-      (at place (eq-eqb (e .entry .head) place (omega arith))
-      ∙ ap (λ (z : ℤ). lesserOf z (x (e .entry))) (sym (table-at (leastOf x s) 16 place (pos 0) (omega arith))))
-      (λ j l d. other j (ne-eqb (e .entry .head) j (λ z. eqb-false j place d (omega arith))))
+      set-table (leastOf x s) (leastOf x (e ∷ s)) 16 index _ (pos 0) (omega arith)
+      (at index (eq-eqb (e .entry .head) index (omega arith))
+      ∙ ap (λ (z : ℤ). lesserOf z (x (e .entry))) (sym (table-at (leastOf x s) 16 index (pos 0) (omega arith))))
+      (λ j l d. other j (ne-eqb (e .entry .head) j (λ z. eqb-false j index d (omega arith))))
     where
       at : (q : ℕ) → eqb (e .entry .head) q ≡ true → leastOf x (e ∷ s) q ≡ lesserOf (leastOf x s q) (x (e .entry))
       at q t = rw t refl
@@ -197,33 +197,33 @@ module _ (e : Event) (s : History) (small : e .entry .head < 16) where
       other q t = rw t refl
 
   premise-2-next : (g : Setting) → e .entry .time .0 < 2 ^ 28 → e .entry .reading .0 < 2 ^ 28 → Until (e .entry .time .0) s
-      → (staysSteady (isCorrect g (e .entry .head)) (g .drift) (e .entry) (getD (leads g s) place (pos 0)) (getD (lags g s) place (pos 0)) && premise2 g s)
+      → (staysSteady (isCorrect g (e .entry .head)) (g .drift) (e .entry) (getD (gains g s) index (pos 0)) (getD (losses g s) index (pos 0)) && premise2 g s)
       ≡ premise2 g (e ∷ s)
   unfolding premise2 each
   premise-2-next g ft fr u =
       ap₂ (λ (a b : ℤ). staysSteady (isCorrect g (e .entry .head)) (g .drift) (e .entry) a b && premise2 g s)
-      (held (λ x. leadOf (g .drift) x 0)) (held (λ x. lagOf (g .drift) x 0))
+      (held (λ x. gainOf (g .drift) x 0)) (held (λ x. lossOf (g .drift) x 0))
       ∙ ap (λ (b : Bool). (isCorrect g (e .entry .head) ⇒ b) && premise2 g s) (sym (steady-with-all (g .drift) (e .entry) (e .entry .head) ft fr s u))
     where
-      held : (x : Entry → ℤ) → getD (table (leastOf x s) 0 16) place (pos 0) ≡ leastOf x s (e .entry .head)
-      held x = table-at (leastOf x s) 16 place (pos 0) (omega arith) ∙ ap (leastOf x s) (omega arith)
+      held : (x : Entry → ℤ) → getD (table (leastOf x s) 0 16) index (pos 0) ≡ leastOf x s (e .entry .head)
+      held x = table-at (leastOf x s) 16 index (pos 0) (omega arith) ∙ ap (leastOf x s) (omega arith)
 
--- an accepted entry e of a sheet with setting g; h is its head's place
+-- an accepted entry e of a sheet with setting g; h is its head's index
 module _ {ws : List ℕ} {i : ℕ} {s : History} {heads : List (List ℕ)} (now : Stands ws i s heads) (accepted : answerAt ws i s .verdict ≡ Accepted)
-    {g : Setting} {e : Entry} (g-is : g ≡ settingAt ws) (e-is : e ≡ entryAt ws i) {lead lag : List ℤ} (kept : Differs g s lead lag)
+    {g : Setting} {e : Entry} (g-is : g ≡ settingAt ws) (e-is : e ≡ entryAt ws i) {gain loss : List ℤ} (kept : DriftState g s gain loss)
     {h : ℕ} (at : h ≡ e .head % 16) where
-  pub differs-next : {x y : ℤ} → x ≡ lesserOf (getD lead h (pos 0)) (leadOf (g .drift) e 0) → y ≡ lesserOf (getD lag h (pos 0)) (lagOf (g .drift) e 0)
-      → Differs g (eventAt ws i s ∷ s) (set lead h x) (set lag h y)
+  pub differs-next : {x y : ℤ} → x ≡ lesserOf (getD gain h (pos 0)) (gainOf (g .drift) e 0) → y ≡ lesserOf (getD loss h (pos 0)) (lossOf (g .drift) e 0)
+      → DriftState g (eventAt ws i s ∷ s) (set gain h x) (set loss h y)
   differs-next is-x is-y =
       let next = least-next (eventAt ws i s) s (entry-sized ws i .0) in
       record {
-        leads-are = rw (is-x, at, kept .leads-are, e-is) (next (λ d. leadOf (g .drift) d 0));
-        lags-are = rw (is-y, at, kept .lags-are, e-is) (next (λ d. lagOf (g .drift) d 0));
+        gains-are = rw (is-x, at, kept .gains-are, e-is) (next (λ d. gainOf (g .drift) d 0));
+        losses-are = rw (is-y, at, kept .losses-are, e-is) (next (λ d. lossOf (g .drift) d 0));
       }
 
-  pub steady-next : {a b : Bool} {x y : ℤ} → a ≡ isCorrect g (e .head) → x ≡ getD lead h (pos 0) → y ≡ getD lag h (pos 0)
+  pub steady-next : {a b : Bool} {x y : ℤ} → a ≡ isCorrect g (e .head) → x ≡ getD gain h (pos 0) → y ≡ getD loss h (pos 0)
       → b ≡ staysSteady a (g .drift) e x y → (b && premise2 g s) ≡ premise2 g (eventAt ws i s ∷ s)
   steady-next correct is-x is-y is-b =
       let t = next-taken now accepted in
-      rw (is-b, correct, is-x, is-y, at, kept .leads-are, kept .lags-are, e-is)
+      rw (is-b, correct, is-x, is-y, at, kept .gains-are, kept .losses-are, e-is)
       (premise-2-next (eventAt ws i s) s (entry-sized ws i .0) g (entry-time ws i) (t .reading-below) (until (valid-history now) _ (t .time-rises)))

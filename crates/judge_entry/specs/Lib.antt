@@ -1,2 +1,2 @@
 -- What the judge keeps of a history.
-pub mod Watched
+pub mod State

@@ -1,6 +1,6 @@
 -- Words of 64 bits with a sign as differences of natural numbers: an operation on words is the one on differences, as long as
 -- their parts stay below 2⁶³.
--- Main results: `lead-is`, `lag-is`; that no operation on the way leaves 64 bits, `lead-fits`, `lag-fits` and the like.
+-- Main results: `gain-is`, `loss-is`; that no operation on the way leaves 64 bits, `gain-fits`, `loss-fits` and the like.
 use mathlib.Core.Path.{_≡_, sym, _∙_, ap, ap₂, subst}
 use mathlib.Core.Bool.{Bool, cond}
 use Prim.Native.Nat.{ℕ, suc, _+_, _-_, _*_, _<_, _≤_, _^_}
@@ -102,20 +102,20 @@ module _ {d t a k : ℕ} (b : Bounded d t a k) where
     both-less-is : (u v : ℕ) → x + v ≡ u + (y + d * t + k) → word (word (z -ℤ allowed d t) -ℤ toZ w64 k) ≡ subℕ u v
     both-less-is u v e = difference-is (of-word both-less (omega arith) (omega (arith, allowed-below))) u v (omega arith)
 
-  pub lead-allowed-fits : SFits w64 (ahead t a -ℤ allowed d t)
-  lead-allowed-fits = less-fits is-ahead (omega arith) (omega arith)
+  pub gain-allowed-fits : SFits w64 (ahead t a -ℤ allowed d t)
+  gain-allowed-fits = less-fits is-ahead (omega arith) (omega arith)
 
-  pub lead-fits : SFits w64 (word (ahead t a -ℤ allowed d t) -ℤ toZ w64 k)
-  lead-fits = both-less-fits is-ahead (omega arith) (omega arith)
+  pub gain-fits : SFits w64 (word (ahead t a -ℤ allowed d t) -ℤ toZ w64 k)
+  gain-fits = both-less-fits is-ahead (omega arith) (omega arith)
 
-  pub lead-is : word (word (ahead t a -ℤ allowed d t) -ℤ toZ w64 k) ≡ subℕ (1000000 * a) ((1000000 + d) * t + k)
-  lead-is = both-less-is is-ahead (omega arith) (omega arith) (1000000 * a) ((1000000 + d) * t + k) (omega (arith, add-mul 1000000 d t))
+  pub gain-is : word (word (ahead t a -ℤ allowed d t) -ℤ toZ w64 k) ≡ subℕ (1000000 * a) ((1000000 + d) * t + k)
+  gain-is = both-less-is is-ahead (omega arith) (omega arith) (1000000 * a) ((1000000 + d) * t + k) (omega (arith, add-mul 1000000 d t))
 
-  pub lag-allowed-fits : SFits w64 (word (pos 0 -ℤ ahead t a) -ℤ allowed d t)
-  lag-allowed-fits = less-fits is-behind (omega arith) (omega arith)
+  pub loss-allowed-fits : SFits w64 (word (pos 0 -ℤ ahead t a) -ℤ allowed d t)
+  loss-allowed-fits = less-fits is-behind (omega arith) (omega arith)
 
-  pub lag-fits : SFits w64 (word (word (pos 0 -ℤ ahead t a) -ℤ allowed d t) -ℤ toZ w64 k)
-  lag-fits = both-less-fits is-behind (omega arith) (omega arith)
+  pub loss-fits : SFits w64 (word (word (pos 0 -ℤ ahead t a) -ℤ allowed d t) -ℤ toZ w64 k)
+  loss-fits = both-less-fits is-behind (omega arith) (omega arith)
 
-  pub lag-is : word (word (word (pos 0 -ℤ ahead t a) -ℤ allowed d t) -ℤ toZ w64 k) ≡ subℕ (1000000 * t) (1000000 * a + d * t + k)
-  lag-is = both-less-is is-behind (omega arith) (omega arith) (1000000 * t) (1000000 * a + d * t + k) (omega arith)
+  pub loss-is : word (word (word (pos 0 -ℤ ahead t a) -ℤ allowed d t) -ℤ toZ w64 k) ≡ subℕ (1000000 * t) (1000000 * a + d * t + k)
+  loss-is = both-less-is is-behind (omega arith) (omega arith) (1000000 * t) (1000000 * a + d * t + k) (omega arith)

@@ -13,7 +13,7 @@ use Rattle.protocol.specs.declared.Setting.{Setting}
 use Rattle.protocol.specs.Base.{_⇒_, table}
 use Rattle.protocol.specs.Words.{isCorrect}
 use Rattle.protocol.specs.Run.{Event, History}
-use Rattle.protocol.specs.Premises.{takes, receives, took, each, lastStart, startHeard, premise3}
+use Rattle.protocol.specs.Premises.{takes, receives, took, each, lastStart, startWithin, premise3}
 use Rattle.protocol.proofs.Tests.{cases, and-left, and-right, and-both}
 use Rattle.protocol.proofs.Tables.{length-table, table-at, is-table, set-table}
 use Rattle.judge_premise_3.specs.Starts.{startTime, startTimes}
@@ -33,19 +33,19 @@ module _ (e : Event) (s : History) where
       → set (startTimes s) (e .entry .sender % 16 * 16 + e .entry .head % 16) (e .entry .time .0 + 1) ≡ startTimes (e ∷ s)
   unfolding startTimes
   times-delivered ha hq hp hk =
-      set-table (λ j. startTime s (j / 16) (j % 16)) (λ j. startTime (e ∷ s) (j / 16) (j % 16)) 256 place _ 0 (omega arith)
-      (hit (place / 16) (place % 16) (and-both (and-both (eq-eqb (e .entry .head) (place % 16) (omega arith)) (eq-eqb (e .entry .action) 2 ha))
-      (and-both (eq-eqb (e .entry .sender) (place / 16) (omega arith)) (eq-eqb (e .entry .serial) 0 hk))))
+      set-table (λ j. startTime s (j / 16) (j % 16)) (λ j. startTime (e ∷ s) (j / 16) (j % 16)) 256 index _ 0 (omega arith)
+      (hit (index / 16) (index % 16) (and-both (and-both (eq-eqb (e .entry .head) (index % 16) (omega arith)) (eq-eqb (e .entry .action) 2 ha))
+      (and-both (eq-eqb (e .entry .sender) (index / 16) (omega arith)) (eq-eqb (e .entry .serial) 0 hk))))
       (λ j l d. miss (j / 16) (j % 16) (cases (receives 2 (j / 16) 0 (j % 16) e) (λ t. absurd (elsewhere j d t)) (λ t. t)))
     where
-      place : ℕ
-      place = e .entry .sender % 16 * 16 + e .entry .head % 16
+      index : ℕ
+      index = e .entry .sender % 16 * 16 + e .entry .head % 16
 
-      elsewhere : (j : ℕ) → eqb j place ≡ false → receives 2 (j / 16) 0 (j % 16) e ≡ true → ⊥
+      elsewhere : (j : ℕ) → eqb j index ≡ false → receives 2 (j / 16) 0 (j % 16) e ≡ true → ⊥
       elsewhere j d t =
           let head = eqb-true (e .entry .head) (j % 16) (and-left (eqb (e .entry .head) (j % 16)) _ (and-left (takes 2 (j % 16) e) _ t)) in
           let sender = eqb-true (e .entry .sender) (j / 16) (and-left (eqb (e .entry .sender) (j / 16)) _ (and-right (takes 2 (j % 16) e) _ t)) in
-          eqb-false j place d (omega arith)
+          eqb-false j index d (omega arith)
 
   pub times-kept : e .entry .action ≢ 2 → startTimes (e ∷ s) ≡ startTimes s
   unfolding startTimes
@@ -85,16 +85,16 @@ module _ (e : Event) (s : History) where
         go true false = refl
         go false c = refl
 
-    pub premise-3-confirmed : e .entry .action ≡ 3 → premise3 g (e ∷ s) ≡ (startHeard g (e .entry .head) s && premise3 g s)
+    pub premise-3-confirmed : e .entry .action ≡ 3 → premise3 g (e ∷ s) ≡ (startWithin g (e .entry .head) s && premise3 g s)
     unfolding premise3 each
     premise-3-confirmed h =
         ap (λ (b : Bool). b && premise3 g s)
-        (undelivered (eqb (e .entry .action) 3 ⇒ startHeard g (e .entry .head) s) (not (took 3 (e .entry .sender) s)) (λ z. omega arith)
-        ∙ ap (λ (b : Bool). b ⇒ startHeard g (e .entry .head) s) (eq-eqb (e .entry .action) 3 h))
+        (undelivered (eqb (e .entry .action) 3 ⇒ startWithin g (e .entry .head) s) (not (took 3 (e .entry .sender) s)) (λ z. omega arith)
+        ∙ ap (λ (b : Bool). b ⇒ startWithin g (e .entry .head) s) (eq-eqb (e .entry .action) 3 h))
 
     pub premise-3-kept : e .entry .action ≢ 2 → e .entry .action ≢ 3 → premise3 g (e ∷ s) ≡ premise3 g s
     unfolding premise3 each
     premise-3-kept h2 h3 =
         ap (λ (b : Bool). b && premise3 g s)
-        (undelivered (eqb (e .entry .action) 3 ⇒ startHeard g (e .entry .head) s) (not (took 3 (e .entry .sender) s)) h2
-        ∙ ap (λ (b : Bool). b ⇒ startHeard g (e .entry .head) s) (ne-eqb (e .entry .action) 3 h3))
+        (undelivered (eqb (e .entry .action) 3 ⇒ startWithin g (e .entry .head) s) (not (took 3 (e .entry .sender) s)) h2
+        ∙ ap (λ (b : Bool). b ⇒ startWithin g (e .entry .head) s) (ne-eqb (e .entry .action) 3 h3))

@@ -72,9 +72,9 @@ module _ (p : ℕ → Bool) (t : ℕ → ℕ) where
       let rest = latest-is P n z (λ a h e. f a (omega arith) e) in
       cond-elim P (p n) (λ e. one-of-max P (t n) (latest p t n) (f n (omega arith) e) rest) (λ _. rest)
 
-asked : (a b : Bool) → (a ≡ true → b ≡ true) → (a ⇒ b) ≡ true
-asked true b f = f refl
-asked false b f = refl
+when : (a b : Bool) → (a ≡ true → b ≡ true) → (a ⇒ b) ≡ true
+when true b f = f refl
+when false b f = refl
 
 -- the time of a head that was reached is one more than u, that of one that was not is 0
 module _ (p r : ℕ → Bool) (t u : ℕ → ℕ) (n w : ℕ) (is : (q : ℕ) → q < n → t q ≡ cond (r q) (u q + 1) 0) (early : (q : ℕ) → u q < 2 ^ 28) where
@@ -105,9 +105,9 @@ module _ (p r : ℕ → Bool) (t u : ℕ → ℕ) (n w : ℕ) (is : (q : ℕ) �
           let most = leb-true last (first + w) (and-right (not (eqb first 0)) _ h) in
           let reached : (q : ℕ) → q < n → p q ≡ true → r q ≡ true = λ q l c. is-reached q l (let m = earliest-at-most p t n q l c in omega arith) in
           and-both
-          (below-all n (λ q. p q ⇒ r q) (λ q l. asked (p q) (r q) (reached q l)))
-          (below-all n (λ a. p a ⇒ allBelow n (λ b. p b ⇒ leb (distance (u a) (u b)) w)) (λ a la. asked (p a) _ (λ ca.
-          below-all n (λ b. p b ⇒ leb (distance (u a) (u b)) w) (λ b lb. asked (p b) _ (λ cb.
+          (below-all n (λ q. p q ⇒ r q) (λ q l. when (p q) (r q) (reached q l)))
+          (below-all n (λ a. p a ⇒ allBelow n (λ b. p b ⇒ leb (distance (u a) (u b)) w)) (λ a la. when (p a) _ (λ ca.
+          below-all n (λ b. p b ⇒ leb (distance (u a) (u b)) w) (λ b lb. when (p b) _ (λ cb.
           let ua = reached-is a la (reached a la ca) in let ub = reached-is b lb (reached b lb cb) in
           let a1 = latest-at-least p t n a la ca in let b1 = latest-at-least p t n b lb cb in
           let a2 = earliest-at-most p t n a la ca in let b2 = earliest-at-most p t n b lb cb in

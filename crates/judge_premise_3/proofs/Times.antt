@@ -1,5 +1,5 @@
 -- The kept times of a history: whom a head's start reached, and whether the deliveries lie within the tightness.
--- Main results: `all-reached`; `heard-within`, `not-heard`.
+-- Main results: `all-reached`; `within-by-extremes`, `not-within`.
 use mathlib.Core.Path.{_≡_, refl, sym, _∙_, ap, ap₂}
 use mathlib.Core.Bool.{Bool, true, false, cond, not, _&&_}
 use mathlib.Core.List.{List}
@@ -13,7 +13,7 @@ use Rattle.protocol.specs.declared.Setting.{Setting}
 use Rattle.protocol.specs.Base.{_⇒_, allBelow}
 use Rattle.protocol.specs.Words.{isCorrect}
 use Rattle.protocol.specs.Run.{History}
-use Rattle.protocol.specs.Premises.{received, lastStart, correctAll, startHeard}
+use Rattle.protocol.specs.Premises.{received, lastStart, correctAll, startWithin}
 use Rattle.protocol.proofs.Tables.{table-at}
 use Rattle.data_sets.proofs.Loops.{all-more, all-fails}
 use Rattle.judge_premise_3.specs.Starts.{startTime, startTimes}
@@ -69,14 +69,14 @@ module _ (g : Setting) (times : List ℕ) (s : History) (v : ℕ) (are : times �
   -- the earliest and the latest of the heads below q, which are all
   module _ (early : (q : ℕ) → lastStart s v q < 2 ^ 28) {q first last : ℕ} (end : q ≡ g .n)
       (is-first : first ≡ earliest (isCorrect g) (timeAt times v) q) (is-last : last ≡ latest (isCorrect g) (timeAt times v) q) where
-    by-extremes : (not (eqb first 0) && leb last (first + g .tightness)) ≡ startHeard g v s
-    unfolding startHeard
+    by-extremes : (not (eqb first 0) && leb last (first + g .tightness)) ≡ startWithin g v s
+    unfolding startWithin
     by-extremes =
         rw (is-first, is-last, end) (all-within (isCorrect g) (λ q. received 2 v 0 q s) (timeAt times v) (lastStart s v) (g .n) (g .tightness) time-is early)
 
-    pub heard-within : first ≢ 0 → leb last (first + g .tightness) ≡ startHeard g v s
-    heard-within some = sym (ap (λ (b : Bool). not b && leb last (first + g .tightness)) (ne-eqb first 0 some)) ∙ by-extremes
+    pub within-by-extremes : first ≢ 0 → leb last (first + g .tightness) ≡ startWithin g v s
+    within-by-extremes some = sym (ap (λ (b : Bool). not b && leb last (first + g .tightness)) (ne-eqb first 0 some)) ∙ by-extremes
 
-    pub not-heard : first ≡ 0 → not (eqb first 0) ≡ startHeard g v s
-    not-heard none =
+    pub not-within : first ≡ 0 → not (eqb first 0) ≡ startWithin g v s
+    not-within none =
         let zero = ap not (eq-eqb first 0 none) in zero ∙ sym (ap (λ (b : Bool). b && leb last (first + g .tightness)) zero) ∙ by-extremes

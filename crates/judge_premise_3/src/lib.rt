@@ -3,7 +3,7 @@ use data_words::is_correct;
 use head_open::has_mark;
 use protocol::Entry;
 use protocol::Setting;
-use sheet_state::seat;
+use sheet_state::head_index;
 ghost use mathlib.Core.Path.{_≡_};
 ghost use mathlib.Core.Bool.{cond, _&&_};
 ghost use mathlib.Core.List.{List, _∷_};
@@ -12,7 +12,7 @@ ghost use lib.ListN.{getD};
 ghost use Rattle.protocol.specs.declared.Verdict.the-variants.{Accepted};
 ghost use Rattle.protocol.specs.Words.{isCorrect, settingAt, entryAt};
 ghost use Rattle.protocol.specs.Run.{History};
-ghost use Rattle.protocol.specs.Premises.{took, received, lastStart, correctAll, startHeard};
+ghost use Rattle.protocol.specs.Premises.{took, received, lastStart, correctAll, startWithin};
 ghost use Rattle.sheet_state.specs.Arrays.{answerAt, eventAt, Stands};
 ghost use Rattle.judge_premise_3.specs.Starts.{startTimes};
 
@@ -20,7 +20,7 @@ ghost use Rattle.judge_premise_3.specs.Starts.{startTimes};
 fn time_at(times: &[u32; 256], p: u8, q: u8) -> u32
     ensures { λ t. ⌜ t ≡ getD (now (times .entry)) (p % 16 * 16 + q % 16) 0 ⌝ }
 {
-    times[seat(p) * 16 + seat(q)]
+    times[head_index(p) * 16 + head_index(q)]
 }
 
 fn earlier_of(b: bool, t: u32, x: u32) -> u32
@@ -37,9 +37,9 @@ fn later_of(b: bool, t: u32, x: u32) -> u32
 
 // "was delivered earlier to every correct head, their last deliveries lie within the tightness": every two do if the earliest
 // and the latest do. A start that did not reach a correct head has 0 for its earliest.
-fn start_heard(g: Setting, times: &[u32; 256], v: u8) -> bool
+fn start_within(g: Setting, times: &[u32; 256], v: u8) -> bool
     ensures { λ b. ⌜ ((s : History) → now (times .entry) ≡ startTimes s → v < 16 → g .n ≤ 16 → ((q : ℕ) → lastStart s v q < 2 ^ 28)
-        → b ≡ startHeard g v s) ⌝ }
+        → b ≡ startWithin g v s) ⌝ }
 {
     let mut first: u32 = 268435457;
     let mut last: u32 = 1;
@@ -80,8 +80,8 @@ pub fn start_delivered_breaks(
         → answerAt ws i s .verdict ≡ Accepted → e .action ≡ 2 → now (times .entry) ≡ startTimes s
         → (now (times .exit) ≡ startTimes (eventAt ws i s ∷ s)) × (k ≡ cond (isCorrect g (e .head) && took 3 (e .sender) s) 3 0)) ⌝ }
 {
-    let p = seat(e.sender);
-    times[p * 16 + seat(e.head)] = std::num::wrapping_add_u32(e.time.0, 1);
+    let p = head_index(e.sender);
+    times[p * 16 + head_index(e.head)] = std::num::wrapping_add_u32(e.time.0, 1);
     if has_mark(heads[p][1], 2) && is_correct(g, e.head) {
         3
     } else {
@@ -92,7 +92,7 @@ pub fn start_delivered_breaks(
 // "A start confirmed by any head was delivered earlier to every correct head"
 pub fn start_confirmed_breaks(g: Setting, e: Entry, times: &[u32; 256]) -> usize
     ensures { λ k. ⌜ ((ws : List ℕ) (i : ℕ) (s : History) (heads : List (List ℕ)) → Stands ws i s heads → g ≡ settingAt ws → e ≡ entryAt ws i
-        → answerAt ws i s .verdict ≡ Accepted → now (times .entry) ≡ startTimes s → k ≡ cond (startHeard g (e .head) s) 0 3) ⌝ }
+        → answerAt ws i s .verdict ≡ Accepted → now (times .entry) ≡ startTimes s → k ≡ cond (startWithin g (e .head) s) 0 3) ⌝ }
 {
-    if start_heard(g, times, e.head) { 0 } else { 3 }
+    if start_within(g, times, e.head) { 0 } else { 3 }
 }

@@ -20,7 +20,7 @@ use Rattle.protocol.proofs.Moments.{any-map}
 use Rattle.protocol.proofs.Effects.{none-is-some}
 use Rattle.protocol.proofs.Valid.{Valid, start, more, by-head, started-took, confirmed-took, turn-took, closed-took}
 use Rattle.protocol.proofs.Ranges.{run-in-range}
-use Rattle.protocol.proofs.Phases.{held, held-other, Origin, own, heard, Turn, sends-none, sends-one, turn, delivered-choice}
+use Rattle.protocol.proofs.Phases.{held, held-other, Origin, own, reached, Turn, sends-none, sends-one, turn, delivered-choice}
 use Rattle.data_sets.proofs.Sets.{same-test}
 use Rattle.judge_premises_5_to_8.proofs.Heads.{Heads}
 
@@ -52,7 +52,7 @@ module _ {g : Setting} where
 
       new : (c : ℕ) → Origin g votes s e c → (took 4 (e .entry .head) (e ∷ s) || took 5 (e .entry .head) (e ∷ s)) ≡ true
       new c (own _ _ x) = or-first (took 4 (e .entry .head) (e ∷ s)) _ (sym (turn-took g (more t v) (e .entry .head)) ∙ x)
-      new c (heard x _) = or-second (took 4 (e .entry .head) (e ∷ s)) _ (rw (eqb-same (e .entry .head), x) refl)
+      new c (reached x _) = or-second (took 4 (e .entry .head) (e ∷ s)) _ (rw (eqb-same (e .entry .head), x) refl)
 
       at-head : Turn g votes s e → (held g votes s (e .entry .head) ≡ SomeNumber c → (took 4 (e .entry .head) s || took 5 (e .entry .head) s) ≡ true)
           → held g votes (e ∷ s) (e .entry .head) ≡ SomeNumber c → (took 4 (e .entry .head) (e ∷ s) || took 5 (e .entry .head) (e ∷ s)) ≡ true

@@ -2,7 +2,7 @@
 -- is, whether no frame came late, and whether a correct head has closed the phase. An entry changes them only if it delivers a
 -- frame of the phase or closes it.
 -- Main results: `is-over`, `not-over`, `is-late`, `not-late`; `frame-of-faulty`, `frame-in-time`, `frame-late`; `close-of-faulty`,
--- `close-again`, `close-after-late`, `first-close-heard`, `first-close-unheard`; `found-apart`.
+-- `close-again`, `close-after-late`, `first-close-reached`, `first-close-unreached`; `found-apart`.
 use mathlib.Core.Path.{_≡_, refl, sym, _∙_, ap, ap₂}
 use mathlib.Core.Bool.{Bool, true, false, cond, not, _&&_, _||_}
 use mathlib.Core.List.{List, [], _∷_}
@@ -21,32 +21,32 @@ use Rattle.protocol.specs.Run.{Event, History}
 use Rattle.protocol.specs.Premises.{delivery, closing, each, before, correctTakes, correctCloses, noneBetween, premise3, premise5, premise7}
 use Rattle.protocol.proofs.Tests.{not-true, not-false, or-right}
 use Rattle.judge_premise_3.proofs.Events.{premise-3-kept}
-use Rattle.judge_premises_5_to_8.specs.Closes.{kindOf, allHeard, isLate, flag, foundOf, Found}
+use Rattle.judge_premises_5_to_8.specs.Closes.{phaseKind, phaseReached, isLate, flag, foundOf, Found}
 
 -- A PHASE
 
 -- premise 5 or 7 is kept, premise 6 or 8 is kept, no frame came late, and a correct head has closed the phase
-record Watch : Type 0 where
-  heard : Bool
+record Findings : Type 0 where
+  reached : Bool
   between : Bool
   in-time : Bool
   closed : Bool
 
-abbrev watchOf : Setting → History → Kind → Watch
-watchOf g s k =
+abbrev findingsOf : Setting → History → Kind → Findings
+findingsOf g s k =
     record {
-      heard = any (correctCloses g k) s ⇒ allHeard g k (before (correctCloses g k) s);
+      reached = any (correctCloses g k) s ⇒ phaseReached g k (before (correctCloses g k) s);
       between = noneBetween g k s;
       in-time = each (λ d past. correctTakes g (delivery k) d ⇒ not (any (correctCloses g k) past)) s;
       closed = any (correctCloses g k) s;
     }
 
--- after an entry that may be a correct head's delivery or its close of the phase; heard is what premise 5 or 7 says of the
+-- after an entry that may be a correct head's delivery or its close of the phase; reached is what premise 5 or 7 says of the
 -- entries before it
-abbrev watchAfter : Bool → Bool → Bool → Watch → Watch
-watchAfter delivers closes heard w =
+abbrev findingsAfter : Bool → Bool → Bool → Findings → Findings
+findingsAfter delivers closes reached w =
     record {
-      heard = ((closes && not (w .closed)) ⇒ heard) && w .heard;
+      reached = ((closes && not (w .closed)) ⇒ reached) && w .reached;
       between = (closes ⇒ w .in-time) && w .between;
       in-time = (delivers ⇒ not (w .closed)) && w .in-time;
       closed = closes || w .closed;
@@ -59,11 +59,11 @@ unfolding each
 in-time-before g k [] o = refl
 in-time-before g k (e ∷ s) o =
     let unclosed = or-right (correctCloses g k e) (any (correctCloses g k) s) o in
-    rw (unclosed, in-time-before g k s unclosed) (asked-true (correctTakes g (delivery k) e))
+    rw (unclosed, in-time-before g k s unclosed) (if-any (correctTakes g (delivery k) e))
   where
-    asked-true : (b : Bool) → ((b ⇒ true) && true) ≡ true
-    asked-true true = refl
-    asked-true false = refl
+    if-any : (b : Bool) → ((b ⇒ true) && true) ≡ true
+    if-any true = refl
+    if-any false = refl
 
 -- what holds before the first event that passes, asked where there is one
 first-asked : (p : Event → Bool) (Q : History → Bool) (e : Event) (s : History)
@@ -82,11 +82,11 @@ first-asked p Q e s = go (any p s) (p e)
     go false false = refl
 
 module _ (g : Setting) (e : Event) (s : History) where
-  watch-next : (k : Kind) → watchOf g (e ∷ s) k ≡ watchAfter (correctTakes g (delivery k) e) (correctCloses g k e) (allHeard g k s) (watchOf g s k)
+  findings-next : (k : Kind) → findingsOf g (e ∷ s) k ≡ findingsAfter (correctTakes g (delivery k) e) (correctCloses g k e) (phaseReached g k s) (findingsOf g s k)
   unfolding noneBetween each
-  watch-next k =
-      ap (λ (b : Bool). record { heard = b; between = noneBetween g k (e ∷ s); in-time = inTime; closed = any (correctCloses g k) (e ∷ s) })
-      (first-asked (correctCloses g k) (allHeard g k) e s)
+  findings-next k =
+      ap (λ (b : Bool). record { reached = b; between = noneBetween g k (e ∷ s); in-time = inTime; closed = any (correctCloses g k) (e ∷ s) })
+      (first-asked (correctCloses g k) (phaseReached g k) e s)
     where
       inTime : Bool
       inTime = each (λ d past. correctTakes g (delivery k) d ⇒ not (any (correctCloses g k) past)) (e ∷ s)
@@ -98,15 +98,15 @@ module _ (g : Setting) (e : Event) (s : History) where
       neither true = refl
       neither false = refl
 
-  watch-same : (k : Kind) → e .entry .action ≢ delivery k → e .entry .action ≢ closing k → watchOf g (e ∷ s) k ≡ watchOf g s k
-  watch-same k d c =
-      watch-next k ∙ ap₂ (λ (x y : Bool). watchAfter x y (allHeard g k s) (watchOf g s k)) (not-taken (delivery k) d) (not-taken (closing k) c)
+  findings-same : (k : Kind) → e .entry .action ≢ delivery k → e .entry .action ≢ closing k → findingsOf g (e ∷ s) k ≡ findingsOf g s k
+  findings-same k d c =
+      findings-next k ∙ ap₂ (λ (x y : Bool). findingsAfter x y (phaseReached g k s) (findingsOf g s k)) (not-taken (delivery k) d) (not-taken (closing k) c)
 
 -- ALL THAT WAS FOUND
 
-abbrev flags : ℕ → Bool → Watch → Watch → List ℕ
+abbrev flags : ℕ → Bool → Findings → Findings → List ℕ
 flags first starts v a =
-    first ∷ 0 ∷ 0 ∷ flag (not starts) ∷ 0 ∷ flag (not (v .heard)) ∷ flag (not (v .between)) ∷ flag (not (a .heard)) ∷ flag (not (a .between))
+    first ∷ 0 ∷ 0 ∷ flag (not starts) ∷ 0 ∷ flag (not (v .reached)) ∷ flag (not (v .between)) ∷ flag (not (a .reached)) ∷ flag (not (a .between))
     ∷ 0 ∷ flag (not (v .in-time)) ∷ flag (not (a .in-time)) ∷ flag (v .closed) ∷ flag (a .closed) ∷ 0 ∷ 0 ∷ []
 
 abbrev otherThan : ℕ → Kind
@@ -114,16 +114,16 @@ otherThan zero = adjusts
 otherThan (suc phase) = votes
 
 -- own in the phase, what w says in the other
-abbrev flagsWith : ℕ → ℕ → Bool → (Kind → Watch) → Watch → List ℕ
+abbrev flagsWith : ℕ → ℕ → Bool → (Kind → Findings) → Findings → List ℕ
 flagsWith zero first starts w own = flags first starts own (w adjusts)
 flagsWith (suc phase) first starts w own = flags first starts (w votes) own
 
-flags-same : (phase first : ℕ) {b c : Bool} (w v : Kind → Watch) {x y : Watch} → b ≡ c → w (otherThan phase) ≡ v (otherThan phase) → x ≡ y
+flags-same : (phase first : ℕ) {b c : Bool} (w v : Kind → Findings) {x y : Findings} → b ≡ c → w (otherThan phase) ≡ v (otherThan phase) → x ≡ y
     → flagsWith phase first b w x ≡ flagsWith phase first c v y
 flags-same zero first w v p q r = rw (p, q, r) refl
 flags-same (suc phase) first w v p q r = rw (p, q, r) refl
 
-found-is : (g : Setting) (s : History) (phase first : ℕ) → foundOf g s first ≡ flagsWith phase first (premise3 g s) (watchOf g s) (watchOf g s (kindOf phase))
+found-is : (g : Setting) (s : History) (phase first : ℕ) → foundOf g s first ≡ flagsWith phase first (premise3 g s) (findingsOf g s) (findingsOf g s (phaseKind phase))
 unfolding premise5 premise7
 found-is g s zero first = refl
 found-is g s (suc phase) first = refl
@@ -133,19 +133,19 @@ found-of : (g : Setting) (s : History) (l : List ℕ) (first : ℕ) → l ≡ fo
 found-of g s l first is = is ∙ ap (foundOf g s) (sym (ap (λ (m : List ℕ). getD m 0 0) is))
 
 -- one thing set under the number that stands for it
-abbrev unheard : Watch → Watch
-unheard w = record { heard = false; between = w .between; in-time = w .in-time; closed = w .closed }
+abbrev unreached : Findings → Findings
+unreached w = record { reached = false; between = w .between; in-time = w .in-time; closed = w .closed }
 
-abbrev unquiet : Watch → Watch
-unquiet w = record { heard = w .heard; between = false; in-time = w .in-time; closed = w .closed }
+abbrev someBetween : Findings → Findings
+someBetween w = record { reached = w .reached; between = false; in-time = w .in-time; closed = w .closed }
 
-abbrev late : Watch → Watch
-late w = record { heard = w .heard; between = w .between; in-time = false; closed = w .closed }
+abbrev late : Findings → Findings
+late w = record { reached = w .reached; between = w .between; in-time = false; closed = w .closed }
 
-abbrev shut : Watch → Watch
-shut w = record { heard = w .heard; between = w .between; in-time = w .in-time; closed = true }
+abbrev shut : Findings → Findings
+shut w = record { reached = w .reached; between = w .between; in-time = w .in-time; closed = true }
 
-module _ (first : ℕ) (starts : Bool) (w : Kind → Watch) (own : Watch) where
+module _ (first : ℕ) (starts : Bool) (w : Kind → Findings) (own : Findings) where
   set-none : (phase : ℕ) → set (flagsWith phase first starts w own) 0 1 ≡ flagsWith phase 1 starts w own
   set-none zero = refl
   set-none (suc phase) = refl
@@ -154,15 +154,15 @@ module _ (first : ℕ) (starts : Bool) (w : Kind → Watch) (own : Watch) where
   set-starts true = refl
   set-starts false = refl
 
-  set-unheard : (phase : ℕ) → phase < 2 → set (flagsWith phase first starts w own) (5 + 2 * phase) 1 ≡ flagsWith phase first starts w (unheard own)
-  set-unheard zero l = refl
-  set-unheard (suc zero) l = refl
-  set-unheard (suc (suc phase)) l = absurd (omega arith)
+  set-unreached : (phase : ℕ) → phase < 2 → set (flagsWith phase first starts w own) (5 + 2 * phase) 1 ≡ flagsWith phase first starts w (unreached own)
+  set-unreached zero l = refl
+  set-unreached (suc zero) l = refl
+  set-unreached (suc (suc phase)) l = absurd (omega arith)
 
-  set-unquiet : (phase : ℕ) → phase < 2 → set (flagsWith phase first starts w own) (6 + 2 * phase) 1 ≡ flagsWith phase first starts w (unquiet own)
-  set-unquiet zero l = refl
-  set-unquiet (suc zero) l = refl
-  set-unquiet (suc (suc phase)) l = absurd (omega arith)
+  set-some-between : (phase : ℕ) → phase < 2 → set (flagsWith phase first starts w own) (6 + 2 * phase) 1 ≡ flagsWith phase first starts w (someBetween own)
+  set-some-between zero l = refl
+  set-some-between (suc zero) l = refl
+  set-some-between (suc (suc phase)) l = absurd (omega arith)
 
   set-late : (phase : ℕ) → phase < 2 → set (flagsWith phase first starts w own) (10 + phase) 1 ≡ flagsWith phase first starts w (late own)
   set-late zero l = refl
@@ -199,7 +199,7 @@ closes-is adjusts true = refl
 closes-is adjusts false = refl
 
 -- nothing is asked of starts then, or of the other phase
-elsewhere : (phase a : ℕ) (closes : Bool) → a ≡ cond closes (closing (kindOf phase)) (delivery (kindOf phase))
+elsewhere : (phase a : ℕ) (closes : Bool) → a ≡ cond closes (closing (phaseKind phase)) (delivery (phaseKind phase))
     → (a ≢ 2) × (a ≢ 3) × (a ≢ delivery (otherThan phase)) × (a ≢ closing (otherThan phase))
 elsewhere zero a true is = (λ z. omega arith, λ z. omega arith, λ z. omega arith, λ z. omega arith)
 elsewhere zero a false is = (λ z. omega arith, λ z. omega arith, λ z. omega arith, λ z. omega arith)
@@ -207,20 +207,20 @@ elsewhere (suc phase) a true is = (λ z. omega arith, λ z. omega arith, λ z. o
 elsewhere (suc phase) a false is = (λ z. omega arith, λ z. omega arith, λ z. omega arith, λ z. omega arith)
 
 -- the event closes the phase or delivers a frame of it
-module _ (g : Setting) (e : Event) (s : History) (phase : ℕ) (closes : Bool) (is : e .entry .action ≡ cond closes (closing (kindOf phase)) (delivery (kindOf phase))) where
-  abbrev watchNow : Watch
-  watchNow = watchAfter (isCorrect g (e .entry .head) && not closes) (isCorrect g (e .entry .head) && closes) (allHeard g (kindOf phase) s) (watchOf g s (kindOf phase))
+module _ (g : Setting) (e : Event) (s : History) (phase : ℕ) (closes : Bool) (is : e .entry .action ≡ cond closes (closing (phaseKind phase)) (delivery (phaseKind phase))) where
+  abbrev findingsNow : Findings
+  findingsNow = findingsAfter (isCorrect g (e .entry .head) && not closes) (isCorrect g (e .entry .head) && closes) (phaseReached g (phaseKind phase) s) (findingsOf g s (phaseKind phase))
 
-  found-next : (first : ℕ) → foundOf g (e ∷ s) first ≡ flagsWith phase first (premise3 g s) (watchOf g s) watchNow
+  found-next : (first : ℕ) → foundOf g (e ∷ s) first ≡ flagsWith phase first (premise3 g s) (findingsOf g s) findingsNow
   found-next first =
       let u = elsewhere phase (e .entry .action) closes is in
       found-is g (e ∷ s) phase first
-      ∙ flags-same phase first (watchOf g (e ∷ s)) (watchOf g s) (premise-3-kept e s g (u .0) (u .1)) (watch-same g e s (otherThan phase) (u .2) (u .3))
-      (watch-next g e s (kindOf phase)
-      ∙ ap₂ (λ (x y : Bool). watchAfter (isCorrect g (e .entry .head) && x) (isCorrect g (e .entry .head) && y) (allHeard g (kindOf phase) s) (watchOf g s (kindOf phase)))
-      (ap (λ (a : ℕ). eqb a (delivery (kindOf phase))) is ∙ delivers-is (kindOf phase) closes) (ap (λ (a : ℕ). eqb a (closing (kindOf phase))) is ∙ closes-is (kindOf phase) closes))
+      ∙ flags-same phase first (findingsOf g (e ∷ s)) (findingsOf g s) (premise-3-kept e s g (u .0) (u .1)) (findings-same g e s (otherThan phase) (u .2) (u .3))
+      (findings-next g e s (phaseKind phase)
+      ∙ ap₂ (λ (x y : Bool). findingsAfter (isCorrect g (e .entry .head) && x) (isCorrect g (e .entry .head) && y) (phaseReached g (phaseKind phase) s) (findingsOf g s (phaseKind phase)))
+      (ap (λ (a : ℕ). eqb a (delivery (phaseKind phase))) is ∙ delivers-is (phaseKind phase) closes) (ap (λ (a : ℕ). eqb a (closing (phaseKind phase))) is ∙ closes-is (phaseKind phase) closes))
 
-  found-by : (m : List ℕ) (first : ℕ) → m ≡ flagsWith phase first (premise3 g s) (watchOf g s) watchNow → Found g (e ∷ s) m
+  found-by : (m : List ℕ) (first : ℕ) → m ≡ flagsWith phase first (premise3 g s) (findingsOf g s) findingsNow → Found g (e ∷ s) m
   found-by m first h = found-of g (e ∷ s) m first (h ∙ sym (found-next first))
 
 flag-set : (b : Bool) → flag b ≡ 1 → b ≡ true
@@ -234,13 +234,13 @@ flag-unset false x = refl
 -- l is what was found in the history s
 module _ (g : Setting) (s : History) (phase : ℕ) (below : phase < 2) (l : List ℕ) (F : Found g s l) where
   abbrev isOver : Bool
-  isOver = any (correctCloses g (kindOf phase)) s
+  isOver = any (correctCloses g (phaseKind phase)) s
 
-  abbrev was : Watch
-  was = watchOf g s (kindOf phase)
+  abbrev was : Findings
+  was = findingsOf g s (phaseKind phase)
 
-  abbrev having : ℕ → Watch → List ℕ
-  having first own = flagsWith phase first (premise3 g s) (watchOf g s) own
+  abbrev having : ℕ → Findings → List ℕ
+  having first own = flagsWith phase first (premise3 g s) (findingsOf g s) own
 
   l-is : l ≡ having (getD l 0 0) was
   l-is = F ∙ found-is g s phase (getD l 0 0)
@@ -248,7 +248,7 @@ module _ (g : Setting) (s : History) (phase : ℕ) (below : phase < 2) (l : List
   over-found : getD l (12 + phase) 0 ≡ flag isOver
   over-found = ap (λ (m : List ℕ). getD m (12 + phase) 0) l-is ∙ over-at _ _ _ _ phase below
 
-  late-found : getD l (10 + phase) 0 ≡ flag (isLate g (kindOf phase) s)
+  late-found : getD l (10 + phase) 0 ≡ flag (isLate g (phaseKind phase) s)
   late-found = ap (λ (m : List ℕ). getD m (10 + phase) 0) l-is ∙ late-at _ _ _ _ phase below
 
   pub is-over : getD l (12 + phase) 0 ≡ 1 → isOver ≡ true
@@ -257,11 +257,11 @@ module _ (g : Setting) (s : History) (phase : ℕ) (below : phase < 2) (l : List
   pub not-over : getD l (12 + phase) 0 ≢ 1 → isOver ≡ false
   not-over t = flag-unset isOver (λ z. t (over-found ∙ z))
 
-  pub is-late : getD l (10 + phase) 0 ≡ 1 → isLate g (kindOf phase) s ≡ true
-  is-late t = flag-set (isLate g (kindOf phase) s) (sym late-found ∙ t)
+  pub is-late : getD l (10 + phase) 0 ≡ 1 → isLate g (phaseKind phase) s ≡ true
+  is-late t = flag-set (isLate g (phaseKind phase) s) (sym late-found ∙ t)
 
-  pub not-late : getD l (10 + phase) 0 ≢ 1 → isLate g (kindOf phase) s ≡ false
-  not-late t = flag-unset (isLate g (kindOf phase) s) (λ z. t (late-found ∙ z))
+  pub not-late : getD l (10 + phase) 0 ≢ 1 → isLate g (phaseKind phase) s ≡ false
+  not-late t = flag-unset (isLate g (phaseKind phase) s) (λ z. t (late-found ∙ z))
 
   none-set : set l 0 1 ≡ having 1 was
   none-set = ap (λ (m : List ℕ). set m 0 1) l-is ∙ set-none _ _ _ _ phase
@@ -275,7 +275,7 @@ module _ (g : Setting) (s : History) (phase : ℕ) (below : phase < 2) (l : List
     of-head is = ap (λ (y : Entry). isCorrect g (y .head)) (sym x-is) ∙ is
 
     -- it delivers a frame of the phase
-    module _ (is : x .action ≡ delivery (kindOf phase)) where
+    module _ (is : x .action ≡ delivery (phaseKind phase)) where
       pub frame-of-faulty : isCorrect g (x .head) ≡ false → Found g (e ∷ s) (set l 0 1)
       frame-of-faulty c = found-by g e s phase false (takes is) _ 1 (none-set ∙ ap (having 1) (rw (of-head c) refl))
 
@@ -288,18 +288,18 @@ module _ (g : Setting) (s : History) (phase : ℕ) (below : phase < 2) (l : List
           (ap (λ (m : List ℕ). set m (10 + phase) 1) l-is ∙ set-late _ _ _ _ phase below ∙ ap (having (getD l 0 0)) (rw (of-head c, o) refl))
 
     -- it closes the phase
-    module _ (is : x .action ≡ closing (kindOf phase)) where
+    module _ (is : x .action ≡ closing (phaseKind phase)) where
       pub close-of-faulty : isCorrect g (x .head) ≡ false → Found g (e ∷ s) (set l 0 1)
       close-of-faulty c = found-by g e s phase true (takes is) _ 1 (none-set ∙ ap (having 1) (rw (of-head c) refl))
 
       module _ (c : isCorrect g (x .head) ≡ true) where
-        pub close-again : isOver ≡ true → isLate g (kindOf phase) s ≡ false → Found g (e ∷ s) (set l 0 1)
+        pub close-again : isOver ≡ true → isLate g (phaseKind phase) s ≡ false → Found g (e ∷ s) (set l 0 1)
         close-again o d = found-by g e s phase true (takes is) _ 1 (none-set ∙ ap (having 1) (rw (of-head c, o, not-false {b = was .in-time} d) refl))
 
-        pub close-after-late : isOver ≡ true → isLate g (kindOf phase) s ≡ true → Found g (e ∷ s) (set l (6 + 2 * phase) 1)
+        pub close-after-late : isOver ≡ true → isLate g (phaseKind phase) s ≡ true → Found g (e ∷ s) (set l (6 + 2 * phase) 1)
         close-after-late o d =
             found-by g e s phase true (takes is) _ (getD l 0 0)
-            (ap (λ (m : List ℕ). set m (6 + 2 * phase) 1) l-is ∙ set-unquiet _ _ _ _ phase below
+            (ap (λ (m : List ℕ). set m (6 + 2 * phase) 1) l-is ∙ set-some-between _ _ _ _ phase below
             ∙ ap (having (getD l 0 0)) (rw (of-head c, o, not-true {b = was .in-time} d) refl))
 
         -- for the first time
@@ -307,25 +307,25 @@ module _ (g : Setting) (s : History) (phase : ℕ) (below : phase < 2) (l : List
           shut-set : set l (12 + phase) 1 ≡ having (getD l 0 0) (shut was)
           shut-set = ap (λ (m : List ℕ). set m (12 + phase) 1) l-is ∙ set-shut _ _ _ _ phase below
 
-          pub first-close-heard : allHeard g (kindOf phase) s ≡ true → Found g (e ∷ s) (set (set l (12 + phase) 1) 0 1)
-          first-close-heard h =
+          pub first-close-reached : phaseReached g (phaseKind phase) s ≡ true → Found g (e ∷ s) (set (set l (12 + phase) 1) 0 1)
+          first-close-reached h =
               found-by g e s phase true (takes is) _ 1
               (ap (λ (m : List ℕ). set m 0 1) shut-set ∙ set-none _ _ _ _ phase
-              ∙ ap (having 1) (rw (of-head c, o, h, in-time-before g (kindOf phase) s o) refl))
+              ∙ ap (having 1) (rw (of-head c, o, h, in-time-before g (phaseKind phase) s o) refl))
 
-          pub first-close-unheard : allHeard g (kindOf phase) s ≡ false → Found g (e ∷ s) (set (set l (12 + phase) 1) (5 + 2 * phase) 1)
-          first-close-unheard h =
+          pub first-close-unreached : phaseReached g (phaseKind phase) s ≡ false → Found g (e ∷ s) (set (set l (12 + phase) 1) (5 + 2 * phase) 1)
+          first-close-unreached h =
               found-by g e s phase true (takes is) _ (getD l 0 0)
-              (ap (λ (m : List ℕ). set m (5 + 2 * phase) 1) shut-set ∙ set-unheard _ _ _ _ phase below
-              ∙ ap (having (getD l 0 0)) (rw (of-head c, o, h, in-time-before g (kindOf phase) s o) refl))
+              (ap (λ (m : List ℕ). set m (5 + 2 * phase) 1) shut-set ∙ set-unreached _ _ _ _ phase below
+              ∙ ap (having (getD l 0 0)) (rw (of-head c, o, h, in-time-before g (phaseKind phase) s o) refl))
 
 -- the next event concerns neither phase; b is what premise 3 asks at it
 pub found-apart : (g : Setting) (e : Event) (s : History) → ((k : Kind) → (e .entry .action ≢ delivery k) × (e .entry .action ≢ closing k)) → (l : List ℕ) → Found g s l
     → (b : Bool) → premise3 g (e ∷ s) ≡ (b && premise3 g s) → Found g (e ∷ s) (set l (cond b 0 3) 1)
 found-apart g e s apart l F b starts =
     found-of g (e ∷ s) _ (cond b 1 (getD l 0 0))
-    (ap (λ (m : List ℕ). set m (cond b 0 3) 1) (F ∙ found-is g s 0 (getD l 0 0)) ∙ set-starts (getD l 0 0) (premise3 g s) (watchOf g s) (watchOf g s votes) b
-    ∙ sym (found-is g (e ∷ s) 0 (cond b 1 (getD l 0 0)) ∙ flags-same 0 (cond b 1 (getD l 0 0)) (watchOf g (e ∷ s)) (watchOf g s) starts (same adjusts) (same votes)))
+    (ap (λ (m : List ℕ). set m (cond b 0 3) 1) (F ∙ found-is g s 0 (getD l 0 0)) ∙ set-starts (getD l 0 0) (premise3 g s) (findingsOf g s) (findingsOf g s votes) b
+    ∙ sym (found-is g (e ∷ s) 0 (cond b 1 (getD l 0 0)) ∙ flags-same 0 (cond b 1 (getD l 0 0)) (findingsOf g (e ∷ s)) (findingsOf g s) starts (same adjusts) (same votes)))
   where
-    same : (k : Kind) → watchOf g (e ∷ s) k ≡ watchOf g s k
-    same k = watch-same g e s k (apart k .0) (apart k .1)
+    same : (k : Kind) → findingsOf g (e ∷ s) k ≡ findingsOf g s k
+    same k = findings-same g e s k (apart k .0) (apart k .1)

@@ -34,8 +34,8 @@ heads-stand {ws} S =
     }
 
 module _ {g : Setting} (H : Heads g) where
-  unasked : (q : ℕ) (b : Bool) → (isCorrect g q ≡ true → b ≡ true) → (isCorrect g q ⇒ b) ≡ true
-  unasked q b f = cases (isCorrect g q) (λ t. rw t (f t)) (λ t. rw t refl)
+  if-false : (q : ℕ) (b : Bool) → (isCorrect g q ≡ true → b ≡ true) → (isCorrect g q ⇒ b) ≡ true
+  if-false q b f = cases (isCorrect g q) (λ t. rw t (f t)) (λ t. rw t refl)
 
   -- a set has all correct heads if each of them passes
   pub all-correct : (p : ℕ → Bool) → hasAll (setOf p) (g .correct) ≡ correctAll g p
@@ -44,4 +44,4 @@ module _ {g : Setting} (H : Heads g) where
       ∙ set-all p (isCorrect g)
       ∙ same-test (allBelow 16 (λ q. isCorrect g q ⇒ p q)) (correctAll g p)
       (λ t. below-all (g .n) (λ q. isCorrect g q ⇒ p q) (λ q l. all-below 16 (λ q. isCorrect g q ⇒ p q) t q (let n = H .few in omega arith)))
-      (λ t. below-all 16 (λ q. isCorrect g q ⇒ p q) (λ q l. unasked q (p q) (λ c. implied (isCorrect g q) (p q) (all-below (g .n) (λ q. isCorrect g q ⇒ p q) t q (H .below q c)) c)))
+      (λ t. below-all 16 (λ q. isCorrect g q ⇒ p q) (λ q l. if-false q (p q) (λ c. implied (isCorrect g q) (p q) (all-below (g .n) (λ q. isCorrect g q ⇒ p q) t q (H .below q c)) c)))

@@ -3,4 +3,4 @@ pub mod Heads
 pub mod Receivers
 pub mod Candidates
 pub mod Found
-pub mod Heard
+pub mod Reached

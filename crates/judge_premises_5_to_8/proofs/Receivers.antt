@@ -1,4 +1,4 @@
--- The heads that each vote and adjust reached, by the sets that are kept: what stands at a frame's place, and what one more
+-- The heads that each vote and adjust reached, by the sets that are kept: what stands at a frame's index, and what one more
 -- entry changes.
 -- Main results: `reached-others`, `receivers-same`, `frame-received`.
 use mathlib.Core.Path.{_≡_, refl, sym, _∙_, ap, ap₂}
@@ -20,9 +20,9 @@ use Rattle.protocol.proofs.Tests.{cond-elim}
 use Rattle.protocol.proofs.Tables.{length-table, table-at, is-table, set-table}
 use Rattle.data_sets.specs.Sets.{setOf, withHead, hasAll}
 use Rattle.data_sets.proofs.Sets.{set-with, set-ext, same-test}
-use Rattle.sheet_state.specs.Places.{placeFor}
+use Rattle.sheet_state.specs.Indices.{frameIndex}
 use Rattle.sheet_state.specs.Arrays.{actionAt, headAt, serialAt, eventAt}
-use Rattle.sheet_state.proofs.Places.{place-fields, fields-place}
+use Rattle.sheet_state.proofs.Indices.{index-fields, fields-index}
 use Rattle.sheet_state.proofs.Standing.{entry-sized}
 use Rattle.judge_premises_5_to_8.specs.Closes.{receiverSets}
 use Rattle.judge_premises_5_to_8.proofs.Heads.{Heads, all-correct}
@@ -30,18 +30,18 @@ use Rattle.judge_premises_5_to_8.proofs.Heads.{Heads, all-correct}
 -- A FRAME'S SET
 
 module _ (k : Kind) (p i : ℕ) (hp : p < 16) (hi : i < 16) where
-  receivers-at : (s : History) → getD (receiverSets s) (placeFor (delivery k) p i) 0 ≡ setOf (λ q. received (delivery k) p i q s)
+  receivers-at : (s : History) → getD (receiverSets s) (frameIndex (delivery k) p i) 0 ≡ setOf (λ q. received (delivery k) p i q s)
   unfolding receiverSets
   receivers-at s =
-      let f = place-fields k p i hp hi in
-      table-at (λ j. setOf (λ q. received (actionAt j) (headAt j) (serialAt j) q s)) 512 (placeFor (delivery k) p i) 0 (f .0) ∙ same _ _ _ (f .1) (f .2) (f .3)
+      let f = index-fields k p i hp hi in
+      table-at (λ j. setOf (λ q. received (actionAt j) (headAt j) (serialAt j) q s)) 512 (frameIndex (delivery k) p i) 0 (f .0) ∙ same _ _ _ (f .1) (f .2) (f .3)
     where
       same : (x y z : ℕ) → x ≡ delivery k → y ≡ p → z ≡ i → setOf (λ q. received x y z q s) ≡ setOf (λ q. received (delivery k) p i q s)
       same x y z e f h = rw (e, f, h) refl
 
   -- a frame reached "all other correct heads"
   pub reached-others : {g : Setting} → Heads g → (s : History)
-      → hasAll (withHead (getD (receiverSets s) (placeFor (delivery k) p i) 0) p) (g .correct) ≡ correctAll g (λ q. not (eqb q p) ⇒ received (delivery k) p i q s)
+      → hasAll (withHead (getD (receiverSets s) (frameIndex (delivery k) p i) 0) p) (g .correct) ≡ correctAll g (λ q. not (eqb q p) ⇒ received (delivery k) p i q s)
   reached-others {g} H s =
       ap (λ (m : ℕ). hasAll (withHead m p) (g .correct)) (receivers-at s)
       ∙ ap (λ (m : ℕ). hasAll m (g .correct))
@@ -92,16 +92,16 @@ module _ (e : Event) (s : History) where
       by-tests true true tx true ty true tz = absurd (other (eqb-true _ _ tx) (eqb-true _ _ ty) (eqb-true _ _ tz))
 
   receivers-next : (k : Kind) → e .entry .action ≡ delivery k → e .entry .sender < 16 → e .entry .serial < 16 → e .entry .head < 16
-      → set (receiverSets s) (placeFor (delivery k) (e .entry .sender) (e .entry .serial))
-      (withHead (getD (receiverSets s) (placeFor (delivery k) (e .entry .sender) (e .entry .serial)) 0) (e .entry .head)) ≡ receiverSets (e ∷ s)
+      → set (receiverSets s) (frameIndex (delivery k) (e .entry .sender) (e .entry .serial))
+      (withHead (getD (receiverSets s) (frameIndex (delivery k) (e .entry .sender) (e .entry .serial)) 0) (e .entry .head)) ≡ receiverSets (e ∷ s)
   unfolding receiverSets
   receivers-next k a hp hi hq =
-      let f = place-fields k (e .entry .sender) (e .entry .serial) hp hi in
+      let f = index-fields k (e .entry .sender) (e .entry .serial) hp hi in
       set-next (λ j q. received (actionAt j) (headAt j) (serialAt j) q s) (λ j q. received (actionAt j) (headAt j) (serialAt j) q (e ∷ s)) 512
-      (placeFor (delivery k) (e .entry .sender) (e .entry .serial)) (e .entry .head) (f .0) hq
+      (frameIndex (delivery k) (e .entry .sender) (e .entry .serial)) (e .entry .head) (f .0) hq
       (λ q. hit _ _ _ q (a ∙ sym (f .1)) (sym (f .2)) (sym (f .3)))
-      (λ j q l d. miss _ _ _ q (λ x y z. eqb-false j (placeFor (delivery k) (e .entry .sender) (e .entry .serial)) d
-      (sym (fields-place k j l (sym x ∙ a)) ∙ ap₂ (placeFor (delivery k)) (sym y) (sym z))))
+      (λ j q l d. miss _ _ _ q (λ x y z. eqb-false j (frameIndex (delivery k) (e .entry .sender) (e .entry .serial)) d
+      (sym (fields-index k j l (sym x ∙ a)) ∙ ap₂ (frameIndex (delivery k)) (sym y) (sym z))))
 
   pub receivers-same : ((k : Kind) → e .entry .action ≢ delivery k) → receiverSets (e ∷ s) ≡ receiverSets s
   unfolding receiverSets
@@ -113,12 +113,12 @@ module _ (e : Event) (s : History) where
       none : (j : ℕ) → e .entry .action ≡ actionAt j → ⊥
       none j = cond-elim (λ (a : ℕ). e .entry .action ≡ a → ⊥) (ltb j 256) (λ _ x. other votes x) (λ _ x. other adjusts x)
 
--- an entry of a sheet, j the place of its frame and m the frame's set with the entry's head in it
+-- an entry of a sheet, j the index of its frame and m the frame's set with the entry's head in it
 pub frame-received : (ws : List ℕ) (i : ℕ) (s : History) (e : Entry) (k : Kind) (sets : List ℕ) (j m : ℕ) → e ≡ entryAt ws i → e .action ≡ delivery k → sets ≡ receiverSets s
-    → j ≡ placeFor (e .action) (e .sender) (e .serial) → m ≡ withHead (getD sets j 0) (e .head) → set sets j m ≡ receiverSets (eventAt ws i s ∷ s)
-frame-received ws i s e k sets j m is act sets-are place with =
+    → j ≡ frameIndex (e .action) (e .sender) (e .serial) → m ≡ withHead (getD sets j 0) (e .head) → set sets j m ≡ receiverSets (eventAt ws i s ∷ s)
+frame-received ws i s e k sets j m is act sets-are index with =
     let low = entry-sized ws i in
     let acts : entryAt ws i .action ≡ delivery k = rw is at act in
-    let place-is = place ∙ ap₂ (λ (a : ℕ) (x : Entry). placeFor a (x .sender) (x .serial)) act is in
+    let index-is = index ∙ ap₂ (λ (a : ℕ) (x : Entry). frameIndex a (x .sender) (x .serial)) act is in
     let set-is = with ∙ ap₂ (λ (l : List ℕ) (x : Entry). withHead (getD l j 0) (x .head)) sets-are is in
-    rw (set-is, sets-are, place-is) (receivers-next (eventAt ws i s) s k acts (low .1) (low .2) (low .0))
+    rw (set-is, sets-are, index-is) (receivers-next (eventAt ws i s) s k acts (low .1) (low .2) (low .0))

@@ -8,15 +8,15 @@ use Rattle.protocol.specs.declared.Setting.{Setting}
 use Rattle.protocol.specs.Base.{_⇒_, any, table}
 use Rattle.protocol.specs.Record.{Kind, votes, adjusts}
 use Rattle.protocol.specs.Run.{History, recordOf}
-use Rattle.protocol.specs.Premises.{delivery, took, received, each, correctAll, correctTakes, correctCloses, reached, votesHeard, adjustsHeard, noneBetween, premise3, premise5, premise7}
+use Rattle.protocol.specs.Premises.{delivery, took, received, each, correctAll, correctTakes, correctCloses, framesReached, votesReached, adjustsReached, noneBetween, premise3, premise5, premise7}
 use Rattle.data_sets.specs.Sets.{setOf, withHead, hasAll}
-use Rattle.sheet_state.specs.Places.{placeFor}
+use Rattle.sheet_state.specs.Indices.{frameIndex}
 use Rattle.sheet_state.specs.Arrays.{actionAt, headAt, serialAt}
 
 -- phase 0 is the votes', 1 the adjusts'
-abbrev pub kindOf : ℕ → Kind
-kindOf zero = votes
-kindOf (suc phase) = adjusts
+abbrev pub phaseKind : ℕ → Kind
+phaseKind zero = votes
+phaseKind (suc phase) = adjusts
 
 -- by sender and serial, the heads that a vote or an adjust reached
 unfoldable pub receiverSets : History → List ℕ
@@ -24,19 +24,19 @@ receiverSets s = table (λ j. setOf (λ q. received (actionAt j) (headAt j) (ser
 
 -- by these sets, the frame of head p under serial k reached all correct heads, p itself left aside
 abbrev pub frameReached : Setting → List ℕ → ℕ → ℕ → ℕ → Bool
-frameReached g sets a p k = hasAll (withHead (getD sets (placeFor a p k) 0) p) (g .correct)
+frameReached g sets a p k = hasAll (withHead (getD sets (frameIndex a p k) 0) p) (g .correct)
 
 -- what premise 5 or 7 asks of a correct head p at the first correct close, s being the history before it
-abbrev pub heardFrom : Setting → Kind → History → ℕ → Bool
-heardFrom g votes s p =
+abbrev pub headReached : Setting → Kind → History → ℕ → Bool
+headReached g votes s p =
     (took 5 p s || (took 1 p s && (took 3 p s && took 4 p s)))
-    && ((took 1 p s ⇒ correctAll g (λ q. received 2 p 0 q s)) && reached g 5 (recordOf g s p .vote .sent) s p)
-heardFrom g adjusts s p = took 7 p s && reached g 8 (recordOf g s p .adjust .sent) s p
+    && ((took 1 p s ⇒ correctAll g (λ q. received 2 p 0 q s)) && framesReached g 5 (recordOf g s p .vote .sent) s p)
+headReached g adjusts s p = took 7 p s && framesReached g 8 (recordOf g s p .adjust .sent) s p
 
 -- and of all correct heads
-abbrev pub allHeard : Setting → Kind → History → Bool
-allHeard g votes s = votesHeard g s
-allHeard g adjusts s = adjustsHeard g s
+abbrev pub phaseReached : Setting → Kind → History → Bool
+phaseReached g votes s = votesReached g s
+phaseReached g adjusts s = adjustsReached g s
 
 -- a frame of the phase reached a correct head after the first correct close
 abbrev pub isLate : Setting → Kind → History → Bool

@@ -6,8 +6,8 @@ use head_open::has_mark;
 use judge_premise_3::start_reached;
 use protocol::Entry;
 use protocol::Setting;
-use sheet_state::place_for;
-use sheet_state::seat;
+use sheet_state::frame_index;
+use sheet_state::head_index;
 ghost use mathlib.Core.Path.{_≡_};
 ghost use mathlib.Core.Bool.{true, false};
 ghost use mathlib.Core.List.{List, _∷_};
@@ -20,7 +20,7 @@ ghost use Rattle.protocol.specs.Run.{History};
 ghost use Rattle.protocol.specs.Premises.{delivery, closing, received, correctAll, correctCloses};
 ghost use Rattle.sheet_state.specs.Arrays.{eventAt, Stands};
 ghost use Rattle.judge_premise_3.specs.Starts.{startTimes};
-ghost use Rattle.judge_premises_5_to_8.specs.Closes.{kindOf, receiverSets, frameReached, heardFrom, allHeard, Found};
+ghost use Rattle.judge_premises_5_to_8.specs.Closes.{phaseKind, receiverSets, frameReached, headReached, phaseReached, Found};
 
 // Each frame of head p under the first serials, as many as the count says, reached all other correct heads.
 fn frames_reached(g: Setting, p: u8, a: u8, count: u32, received: &[u16; 512]) -> bool
@@ -28,7 +28,7 @@ fn frames_reached(g: Setting, p: u8, a: u8, count: u32, received: &[u16; 512]) -
 {
     let mut k: u8 = 0;
     while (k as u32) < count && k < 16 {
-        if !has_all(with_head(received[place_for(a, p, k)], p), g.correct) {
+        if !has_all(with_head(received[frame_index(a, p, k)], p), g.correct) {
             return false;
         }
         k += 1;
@@ -58,9 +58,9 @@ fn head_reached(
     times: &[u32; 256],
 ) -> bool
     ensures { λ b. ⌜ ((ws : List ℕ) (i : ℕ) (s : History) → Stands ws i s (now (heads .entry)) → g ≡ settingAt ws → now (received .entry) ≡ receiverSets s
-        → now (times .entry) ≡ startTimes s → isCorrect g p ≡ true → any (correctCloses g (kindOf phase)) s ≡ false → b ≡ heardFrom g (kindOf phase) s p) ⌝ }
+        → now (times .entry) ≡ startTimes s → isCorrect g p ≡ true → any (correctCloses g (phaseKind phase)) s ≡ false → b ≡ headReached g (phaseKind phase) s p) ⌝ }
 {
-    let i = seat(p);
+    let i = head_index(p);
     let marks = heads[i][1];
     if phase == 0 {
         if !((heads[i][2] != 0) | has_mark(marks, 4)) {
@@ -86,7 +86,7 @@ fn phase_reached(
     times: &[u32; 256],
 ) -> bool
     ensures { λ b. ⌜ ((ws : List ℕ) (i : ℕ) (s : History) → Stands ws i s (now (heads .entry)) → g ≡ settingAt ws → now (received .entry) ≡ receiverSets s
-        → now (times .entry) ≡ startTimes s → any (correctCloses g (kindOf phase)) s ≡ false → b ≡ allHeard g (kindOf phase) s) ⌝ }
+        → now (times .entry) ≡ startTimes s → any (correctCloses g (phaseKind phase)) s ≡ false → b ≡ phaseReached g (phaseKind phase) s) ⌝ }
 {
     let mut p: u8 = 0;
     while p < g.n {
@@ -112,7 +112,7 @@ pub fn close_breaks(
     found: &mut [u8; 16],
 ) -> usize
     requires { ⌜ phase < 2 ⌝ }
-    ensures { λ k. ⌜ ((ws : List ℕ) (i : ℕ) (s : History) → Stands ws i s (now (heads .entry)) → g ≡ settingAt ws → e ≡ entryAt ws i → e .action ≡ closing (kindOf phase)
+    ensures { λ k. ⌜ ((ws : List ℕ) (i : ℕ) (s : History) → Stands ws i s (now (heads .entry)) → g ≡ settingAt ws → e ≡ entryAt ws i → e .action ≡ closing (phaseKind phase)
         → now (received .entry) ≡ receiverSets s → now (times .entry) ≡ startTimes s → Found g s (now (found .entry))
         → Found g (eventAt ws i s ∷ s) (set (now (found .exit)) k 1)) × (k < 16) ⌝ }
 {
@@ -141,10 +141,10 @@ pub fn frame_breaks(
     found: &[u8; 16],
 ) -> usize
     requires { ⌜ phase < 2 ⌝ }
-    ensures { λ k. ⌜ ((ws : List ℕ) (i : ℕ) (s : History) → e ≡ entryAt ws i → e .action ≡ delivery (kindOf phase) → now (received .entry) ≡ receiverSets s → Found g s (now (found .entry))
+    ensures { λ k. ⌜ ((ws : List ℕ) (i : ℕ) (s : History) → e ≡ entryAt ws i → e .action ≡ delivery (phaseKind phase) → now (received .entry) ≡ receiverSets s → Found g s (now (found .entry))
         → (now (received .exit) ≡ receiverSets (eventAt ws i s ∷ s)) × Found g (eventAt ws i s ∷ s) (set (now (found .entry)) k 1)) × (k < 16) ⌝ }
 {
-    let j = place_for(e.action, e.sender, e.serial);
+    let j = frame_index(e.action, e.sender, e.serial);
     received[j] = with_head(received[j], e.head);
     if is_correct(g, e.head) && found[12 + phase] == 1 {
         10 + phase

@@ -25,19 +25,19 @@ use Rattle.protocol.proofs.Runs.{goes-on, stops, stays-stopped}
 use Rattle.sheet_state.specs.Arrays.{headRows, choicesOf, carriedOf, answerAt, eventAt, Stands, Carries}
 use Rattle.judge_premise_3.specs.Starts.{startTimes}
 use Rattle.judge_premises_5_to_8.specs.Closes.{receiverSets, flag, foundOf}
-use Rattle.judge_entry.specs.Watched.{leastOf, Watched, Differs}
+use Rattle.judge_entry.specs.State.{leastOf, JudgeState, DriftState}
 use Rattle.judge_run.specs.Pass.{Passes, JudgedAt}
 
 same-history : {s h : History} → ran s ≡ ran h → s ≡ h
 same-history e = cc
 
 -- what the loop's variables say of the first i entries, none of which is refused
-pub record Keeps (ws : List ℕ) (g : Setting) (i : ℕ) (heads : List (List ℕ)) (choices carried received times : List ℕ) (lead lag : List ℤ) (found : List ℕ) (steady : Bool) (time : ℕ) : Type 0 where
+pub record Keeps (ws : List ℕ) (g : Setting) (i : ℕ) (heads : List (List ℕ)) (choices carried received times : List ℕ) (gain loss : List ℤ) (found : List ℕ) (steady : Bool) (time : ℕ) : Type 0 where
   pub history : History
   pub stands : Stands ws i history heads
   pub carries : Carries history choices carried
-  pub watched : Watched g history received times found
-  pub differs : Differs g history lead lag
+  pub judge-state : JudgeState g history received times found
+  pub drift-state : DriftState g history gain loss
   pub steady-is : steady ≡ premise2 g history
   pub time-is : time ≡ lastTime history
 
@@ -71,16 +71,16 @@ first-keeps ws g heads first is fresh =
       history = [];
       stands = record { first-word = first; is-run = refl; heads-are = subst (λ (h : Setting). heads ≡ headRows h []) is fresh };
       carries = record { choices-are = sym no-choices; carried-are = sym no-carried };
-      watched = record { received-are = sym no-receivers; times-are = sym no-times; found-is = nothing-found g };
-      differs = record { leads-are = refl; lags-are = refl };
+      judge-state = record { received-are = sym no-receivers; times-are = sym no-times; found-is = nothing-found g };
+      drift-state = record { gains-are = refl; losses-are = refl };
       steady-is = refl;
       time-is = refl;
     }
 
 -- ONE ENTRY
 
-module _ (ws : List ℕ) (g : Setting) (i : ℕ) (heads : List (List ℕ)) (choices carried received times : List ℕ) (lead lag : List ℤ) (found : List ℕ) (steady : Bool) (time : ℕ)
-    (k : Keeps ws g i heads choices carried received times lead lag found steady time) (e : Entry) (fits : Bool) (e-is : e ≡ entryAt ws i) (fits-is : fits ≡ entryFitsAt ws i) (v : Verdict)
+module _ (ws : List ℕ) (g : Setting) (i : ℕ) (heads : List (List ℕ)) (choices carried received times : List ℕ) (gain loss : List ℤ) (found : List ℕ) (steady : Bool) (time : ℕ)
+    (k : Keeps ws g i heads choices carried received times gain loss found steady time) (e : Entry) (fits : Bool) (e-is : e ≡ entryAt ws i) (fits-is : fits ≡ entryFitsAt ws i) (v : Verdict)
     (verdict : (us : List ℕ) (j : ℕ) (s : History) → Stands us j s heads → time ≡ lastTime s → e ≡ entryAt us j → fits ≡ entryFitsAt us j → v ≡ answerAt us j s .verdict) where
   verdict-is : v ≡ answerAt ws i (k .history) .verdict
   verdict-is = verdict ws i (k .history) (k .stands) (k .time-is) e-is fits-is
@@ -97,35 +97,35 @@ module _ (ws : List ℕ) (g : Setting) (i : ℕ) (heads : List (List ℕ)) (choi
 
   -- where the entry is accepted
   module _ (accepted : v ≡ Accepted) (g-is : g ≡ settingAt ws) (n : ℕ) (received′ times′ found′ : List ℕ)
-      (watches : (us : List ℕ) (j : ℕ) (s : History) → Stands us j s heads → g ≡ settingAt us → e ≡ entryAt us j → answerAt us j s .verdict ≡ Accepted
-      → Watched g s received times found → Watched g (eventAt us j s ∷ s) received′ times′ found′ × (n < 16)) where
+      (judges : (us : List ℕ) (j : ℕ) (s : History) → Stands us j s heads → g ≡ settingAt us → e ≡ entryAt us j → answerAt us j s .verdict ≡ Accepted
+      → JudgeState g s received times found → JudgeState g (eventAt us j s ∷ s) received′ times′ found′ × (n < 16)) where
     answers : answerAt ws i (k .history) .verdict ≡ Accepted
     answers = sym verdict-is ∙ accepted
 
-    watched-next : Watched g (eventAt ws i (k .history) ∷ k .history) received′ times′ found′ × (n < 16)
-    watched-next = watches ws i (k .history) (k .stands) g-is e-is answers (k .watched)
+    judge-state-next : JudgeState g (eventAt ws i (k .history) ∷ k .history) received′ times′ found′ × (n < 16)
+    judge-state-next = judges ws i (k .history) (k .stands) g-is e-is answers (k .judge-state)
 
     pub found-index : n < 16
-    found-index = watched-next .1
+    found-index = judge-state-next .1
 
     pub keeps-next : (heads′ : List (List ℕ)) (choices′ carried′ : List ℕ)
         → ((us : List ℕ) (j : ℕ) (s : History) → Stands us j s heads → Carries s choices carried → e ≡ entryAt us j → answerAt us j s .verdict ≡ Accepted
         → (heads′ ≡ headRows (settingAt us) (eventAt us j s ∷ s)) × Carries (eventAt us j s ∷ s) choices′ carried′)
-        → (lead′ lag′ : List ℤ) (b : Bool)
+        → (gain′ loss′ : List ℤ) (b : Bool)
         → ((us : List ℕ) (j : ℕ) (s : History) (rows : List (List ℕ)) → Stands us j s rows → g ≡ settingAt us → e ≡ entryAt us j → answerAt us j s .verdict ≡ Accepted
-        → Differs g s lead lag → Differs g (eventAt us j s ∷ s) lead′ lag′ × ((b && premise2 g s) ≡ premise2 g (eventAt us j s ∷ s)))
-        → Keeps ws g (i + 1) heads′ choices′ carried′ received′ times′ lead′ lag′ found′ (b && steady) (e .time .0)
-    keeps-next heads′ choices′ carried′ takes lead′ lag′ b steadies =
+        → DriftState g s gain loss → DriftState g (eventAt us j s ∷ s) gain′ loss′ × ((b && premise2 g s) ≡ premise2 g (eventAt us j s ∷ s)))
+        → Keeps ws g (i + 1) heads′ choices′ carried′ received′ times′ gain′ loss′ found′ (b && steady) (e .time .0)
+    keeps-next heads′ choices′ carried′ takes gain′ loss′ b steadies =
         let s = k .history in
         let taken = takes ws i s (k .stands) (k .carries) e-is answers in
-        let differs′ = steadies ws i s heads (k .stands) g-is e-is answers (k .differs) in
+        let drift-state′ = steadies ws i s heads (k .stands) g-is e-is answers (k .drift-state) in
         record {
           history = eventAt ws i s ∷ s;
           stands = record { first-word = k .stands .first-word; is-run = rw add-one (goes-on ws i (k .stands .is-run) answers); heads-are = taken .0 };
           carries = taken .1;
-          watched = watched-next .0;
-          differs = differs′ .0;
-          steady-is = ap (λ (t : Bool). b && t) (k .steady-is) ∙ differs′ .1;
+          judge-state = judge-state-next .0;
+          drift-state = drift-state′ .0;
+          steady-is = ap (λ (t : Bool). b && t) (k .steady-is) ∙ drift-state′ .1;
           time-is = ap (λ (x : Entry). x .time .0) e-is;
         }
 
@@ -150,13 +150,13 @@ module _ (g : Setting) (heads : List (List ℕ)) (steady : Bool) (found : List �
       let eighth : p8 ≡ noneBetween g adjusts s = e8 ∙ ap (λ (m : ℕ). eqb m 0) (at 8) ∙ flag-clear (noneBetween g adjusts s) in
       rw (← first, ← steady-is, ← third, ← fourth ws i s stands is, ← fifth, ← sixth, ← seventh, ← eighth) says
 
-pub pass-ends : (ws : List ℕ) (g : Setting) (i count : ℕ) (heads : List (List ℕ)) (choices carried received times : List ℕ) (lead lag : List ℤ) (found : List ℕ) (steady : Bool) (time : ℕ)
-    → Keeps ws g i heads choices carried received times lead lag found steady time → i ≤ count → count ≤ i → g ≡ settingAt ws → (j : Judged) → JudgedAt g heads steady found j
+pub pass-ends : (ws : List ℕ) (g : Setting) (i count : ℕ) (heads : List (List ℕ)) (choices carried received times : List ℕ) (gain loss : List ℤ) (found : List ℕ) (steady : Bool) (time : ℕ)
+    → Keeps ws g i heads choices carried received times gain loss found steady time → i ≤ count → count ≤ i → g ≡ settingAt ws → (j : Judged) → JudgedAt g heads steady found j
     → Passes g (runOf ws count) j heads
-pass-ends ws g i count heads choices carried received times lead lag found steady time k le ge is j judged =
+pass-ends ws g i count heads choices carried received times gain loss found steady time k le ge is j judged =
     let all : i ≡ count = omega arith in
     let run : runOf ws count ≡ ran (k .history) = subst (λ (m : ℕ). runOf ws m ≡ ran (k .history)) all (k .stands .is-run) in
     record {
-      judged-is = judged ws i (k .history) (k .stands) is (k .steady-is) (k .watched .found-is) ∙ ap (judgeRun g) (sym run);
+      judged-is = judged ws i (k .history) (k .stands) is (k .steady-is) (k .judge-state .found-is) ∙ ap (judgeRun g) (sym run);
       heads-are = λ s e. k .stands .heads-are ∙ rw (← is, same-history (sym run ∙ e)) refl;
     }

@@ -1,8 +1,8 @@
 // One pass over a sheet's entries: the run of the heads, and what the premises say of it.
 use head_row::fresh_row;
+use judge_end::all_ended;
 use judge_end::enough_correct;
 use judge_end::first_broken;
-use judge_entry::all_ended;
 use judge_entry::breaks;
 use judge_entry::keeps_steady;
 use protocol::Judged;
@@ -24,7 +24,7 @@ ghost use Rattle.protocol.specs.Run.{runOf, runFirst};
 ghost use Rattle.sheet_state.specs.Arrays.{headRows};
 ghost use Rattle.judge_run.specs.Pass.{Passes, FreshBut, JudgedAt};
 
-// 2⁶²: above any lead and any lag.
+// 2⁶²: above any gain and any loss.
 const NEVER: i64 = 4611686018427387904;
 
 // The first broken premise after the last entry, by what was found at the entries.
@@ -52,8 +52,8 @@ pub fn run_entries(sheet: &[u32], g: Setting, count: usize, heads: &mut [[u32; 8
     let mut carried = [0u32; 512];
     let mut received = [0u16; 512];
     let mut times = [0u32; 256];
-    let mut leads = [NEVER; 16];
-    let mut lags = [NEVER; 16];
+    let mut gains = [NEVER; 16];
+    let mut losses = [NEVER; 16];
     let mut found = [0u8; 16];
     let mut steady = true;
     let mut time: u32 = 0;
@@ -68,7 +68,7 @@ pub fn run_entries(sheet: &[u32], g: Setting, count: usize, heads: &mut [[u32; 8
                 let k = breaks(g, e, heads, &mut received, &mut times, &mut found);
                 take_entry(e, heads, &mut choices, &mut carried);
                 found[k] = 1;
-                steady = keeps_steady(g, e, &mut leads, &mut lags) & steady;
+                steady = keeps_steady(g, e, &mut gains, &mut losses) & steady;
                 time = e.time.0;
                 i += 1;
             }

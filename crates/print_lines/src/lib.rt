@@ -1,5 +1,5 @@
 // The lines that the replay program prints, into a lent buffer: document 01, "The bench sheet, and its neighbours".
-use data_causes::cause_number;
+use data_values::cause_number;
 use print_text::put;
 use print_text::put_decimal;
 use print_text::put_difference;

@@ -1,6 +1,6 @@
 // What the replay program prints, into a lent buffer: document 01, "The bench sheet, and its neighbours".
+use data_bytes::big_endian;
 use data_bytes::bytes_verdict;
-use data_bytes::words_of;
 use judge_sheet::replay_and_judge;
 use print_lines::put_refused;
 use print_lines::put_results;
@@ -51,7 +51,7 @@ pub fn print(bytes: &[u8], out: &mut [u8]) -> usize
     match v {
         Verdict::Refused(c) => put_refused(c, 0, out, 0),
         Verdict::Accepted => {
-            let words = words_of(bytes);
+            let words = big_endian(bytes);
             print_sheet(&words[..bytes.len() / 4], out)
         }
     }

@@ -24,7 +24,7 @@ module _ (g : Setting) where
   -- where an event's adjustment comes from: its head has no adjuster and computes one, or it passes one on
   pub data Origin (s : History) (e : Event) (c : ℕ) (x : Reading) : Type 0 where
     own : c ≡ e .entry .head → held g adjusts s (e .entry .head) ≡ NoNumber → Origin s e c x
-    heard : (p j : ℕ) → names g adjusts s p j ≡ SomeNumber c → adjustmentSent s p j ≡ SomeReading x → Origin s e c x
+    reached : (p j : ℕ) → names g adjusts s p j ≡ SomeNumber c → adjustmentSent s p j ≡ SomeReading x → Origin s e c x
 
   -- what an event does to its head's adjustment: nothing, or the head sends an adjust with it
   pub data Adjusting (s : History) (e : Event) : Type 0 where
@@ -52,7 +52,7 @@ module _ (g : Setting) where
       origin c x (told nu na) (computed n7 m) = absurd (omega arith)
       origin c x (told nu na) (passed-on n8 ca) =
           let is : e .entry .action ≡ 8 = sym (t .asked .number-is) ∙ nu in
-          heard (e .entry .sender) (e .entry .serial)
+          reached (e .entry .sender) (e .entry .serial)
           (subst (λ (y : ℕ). named (frameSent s y (e .entry .sender) (e .entry .serial)) ≡ SomeNumber c) is (ap (λ (d : Delivery). named (d .frame)) (sym (t .asked .delivery-is)) ∙ na))
           (subst (λ (y : ℕ). carriedReading (frameSent s y (e .entry .sender) (e .entry .serial)) ≡ SomeReading x) is
           (ap (λ (d : Delivery). carriedReading (d .frame)) (sym (t .asked .delivery-is)) ∙ ca))
@@ -152,7 +152,7 @@ module _ (g : Setting) where
             first-names = subst (λ (w : ℕ). names g adjusts (e ∷ s) w 0 ≡ SomeNumber c) (sym c-is) (subst (λ (i : ℕ). names g adjusts (e ∷ s) q i ≡ SomeNumber c) zero-sent names-it);
             first-carries = subst (λ (w : ℕ). adjustmentSent (e ∷ s) q (sent g adjusts s q) ≡ adjustmentSent (e ∷ s) w 0) (sym c-is) (ap (adjustmentSent (e ∷ s) q) zero-sent);
           }
-      go (heard p j n val) =
+      go (reached p j n val) =
           let y = single-stays t v (ih p j c n) in
           record { first-names = y .first-names; first-carries = value ∙ sym val ∙ y .first-carries }
 

@@ -17,7 +17,7 @@ use Rattle.protocol.specs.Words.{isCorrect}
 use Rattle.protocol.specs.Record.{isReading, isNumber, startOf, voteOf, fresh}
 use Rattle.protocol.specs.Step.{adjust, prepend, startsHeld, voteReadings, mayAdjust, isClosed}
 use Rattle.protocol.specs.Run.{Event, History, recordOf}
-use Rattle.protocol.specs.Premises.{takes, receives, took, received, correctAll, startHeard, premise3, lastStart}
+use Rattle.protocol.specs.Premises.{takes, receives, took, received, correctAll, startWithin, premise3, lastStart}
 use Rattle.protocol.specs.Claim.{CorrectHead}
 use Rattle.protocol.proofs.Tests.{absurd-bool, cases, and-left, and-right, and-both, or-second, or-left, or-cases, implied, not-false, count-mono}
 use Rattle.protocol.proofs.Moments.{Earlier, now, earlier-trans, earlier-past, any-grows, any-map, find, each-at}
@@ -26,7 +26,7 @@ use Rattle.protocol.proofs.Valid.{baseOf, Valid, start, more, valid-pas
 use Rattle.protocol.proofs.Ranges.{run-in-range}
 use Rattle.protocol.proofs.Phases.{held, held-other, own, turn, phase-at, delivered-choice, held-sent, falls-later}
 use Rattle.protocol.proofs.Starts.{StartAt, start-found, waits, candidate-confirmed}
-use Rattle.protocol.proofs.Rounds.{Round, correct-at, took-correct, correct-heads, moment, moment-earlier, valid-moment, still-open, isClose, votes-heard, adjusts-heard, reaches, chosen, choice-stays}
+use Rattle.protocol.proofs.Rounds.{Round, correct-at, took-correct, correct-heads, moment, moment-earlier, valid-moment, still-open, isClose, votes-reached, adjusts-reached, reaches, chosen, choice-stays}
 
 -- AN ADJUST TURN GIVES AN ADJUSTER
 
@@ -109,14 +109,14 @@ module _ {g : Setting} {h : History} (r : Round g h) where
 
     -- so every correct head took 1, 3 and 4
     took-all : {p : ℕ} → CorrectHead g p → (took 1 p V₁ && (took 3 p V₁ && took 4 p V₁)) ≡ true
-    took-all {p} d = or-cases (took 5 p V₁) _ (votes-heard r d .0) (λ t. absurd (no-vote d t)) (λ t. t)
+    took-all {p} d = or-cases (took 5 p V₁) _ (votes-reached r d .0) (λ t. absurd (no-vote d t)) (λ t. t)
 
     -- its start reached q, who holds the reading
     start-held : (p : ℕ) → p < g .n → isCorrect g p ≡ true → isReading (startOf (recordOf g V₁ q) p) ≡ true
     start-held p l t =
         let d : CorrectHead g p = record { is-head = l; is-correct = t } in
         let sent-it = and-left (took 1 p V₁) _ (took-all d) in
-        let there = correct-at (λ q. received 2 p 0 q V₁) (implied (took 1 p V₁) _ (votes-heard r d .1) sent-it) c in
+        let there = correct-at (λ q. received 2 p 0 q V₁) (implied (took 1 p V₁) _ (votes-reached r d .1) sent-it) c in
         let v = valid-moment r votes in
         rw (start-found g (r .sheet .at-most-16) v q p there (adjust-later v q (c .is-head) (still-open r votes now c)) .reading-is) refl
 
@@ -152,12 +152,12 @@ module _ {g : Setting} {h : History} (r : Round g h) where
     pub near : {p q : ℕ} → CorrectHead g p → CorrectHead g q → distance (lastStart past c p) (lastStart past c q) ≤ g .tightness
 
   pub confirmation : (c : ℕ) {s : History} → Earlier s h → took 3 c s ≡ true → Confirmation c s
-  unfolding premise3 startHeard
+  unfolding premise3 startWithin
   confirmation c {s} x t =
       let e = find (takes 3 c) s t in
       let is : e .event .entry .head ≡ c = eqb-true _ c (and-left (eqb (e .event .entry .head) c) _ (e .holds)) in
       let three = and-right (eqb (e .event .entry .head) c) _ (e .holds) in
-      let both = implied (eqb (e .event .entry .action) 3) _ (and-left (eqb (e .event .entry .action) 3 ⇒ startHeard g (e .event .entry .head) (e .past)) _ (each-at _ (r .p3) (earlier-trans (e .there) x))) three in
+      let both = implied (eqb (e .event .entry .action) 3) _ (and-left (eqb (e .event .entry .action) 3 ⇒ startWithin g (e .event .entry .head) (e .past)) _ (each-at _ (r .p3) (earlier-trans (e .there) x))) three in
       let all-got = subst (λ (v : ℕ). correctAll g (λ q. received 2 v 0 q (e .past)) ≡ true) is (and-left (correctAll g (λ q. received 2 (e .event .entry .head) 0 q (e .past))) _ both) in
       let all-near = subst (λ (v : ℕ). correctAll g (λ p. correctAll g (λ q. leb (distance (lastStart (e .past) v p) (lastStart (e .past) v q)) (g .tightness))) ≡ true) is
       (and-right (correctAll g (λ q. received 2 (e .event .entry .head) 0 q (e .past))) _ both) in
@@ -266,7 +266,7 @@ module _ {g : Setting} {h : History} (r : Round g h) where
 
   pub has-adjuster : (q : ℕ) → CorrectHead g q → (w : ℕ) × (held g adjusts (moment r adjusts) q ≡ SomeNumber w)
   has-adjuster q c =
-      let f = find (takes 7 q) (moment r adjusts) (adjusts-heard r c .0) in
+      let f = find (takes 7 q) (moment r adjusts) (adjusts-reached r c .0) in
       let is : f .event .entry .head ≡ q = eqb-true _ q (and-left (eqb (f .event .entry .head) q) _ (f .holds)) in
       let seven = eqb-true _ 7 (and-right (eqb (f .event .entry .head) q) _ (f .holds)) in
       let w = is-some _ (adjuster-after-turn (f .event) (earlier-trans (f .there) (moment-earlier r adjusts)) (subst (CorrectHead g) (sym is) c) seven) in

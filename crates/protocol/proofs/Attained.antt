@@ -14,7 +14,7 @@ use Rattle.protocol.specs.Median.{median}
 use Rattle.protocol.specs.Step.{vote, adjust, startsHeld, mayLead, lead, voteReadings, mayAdjust, propose, delivered, effect, isClosed, takeAction, actionOf}
 use Rattle.protocol.specs.Causes.{sheetVerdict}
 use Rattle.protocol.specs.Run.{History, Run, stopped, ran, recordOf, frameSent, inputOf, stepEntry, andThen, runOf, runSheet}
-use Rattle.protocol.specs.Premises.{each, before, lastStart, premise1, premise2, startHeard, premise3, premise4, reached, votesHeard, premise5, noneBetween, premise6, adjustsHeard, premise7, premise8, firstBroken, judge}
+use Rattle.protocol.specs.Premises.{each, before, lastStart, premise1, premise2, startWithin, premise3, premise4, framesReached, votesReached, premise5, noneBetween, premise6, adjustsReached, premise7, premise8, firstBroken, judge}
 use Rattle.protocol.specs.Claim.{Ending, endingOf, apart}
 use Rattle.protocol.specs.Marked.{entry}
 
@@ -46,7 +46,7 @@ kept : judge widest ≡ Kept
 unfolding widest settingOf firstWordFits entryOf entryFits fresh median
     vote adjust startsHeld mayLead lead voteReadings mayAdjust propose delivered effect isClosed takeAction actionOf sheetVerdict
     recordOf frameSent inputOf stepEntry andThen runOf runSheet
-    each before lastStart premise1 premise2 startHeard premise3 premise4 reached votesHeard premise5 noneBetween premise6 adjustsHeard premise7 premise8 firstBroken judge
+    each before lastStart premise1 premise2 startWithin premise3 premise4 framesReached votesReached premise5 noneBetween premise6 adjustsReached premise7 premise8 firstBroken judge
 kept = refl
 
 equal : eqb (millionths (settingAt widest) (entryAt widest 15) (entryAt widest 16) (runSheet widest)) (bound (settingAt widest) (entryAt widest 15) (entryAt widest 16) (runSheet widest)) ≡ true

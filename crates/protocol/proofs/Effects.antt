@@ -1,5 +1,5 @@
 -- An action's effect in two parts: what the record keeps of it, and what the head then says. Every later fact about a
--- step is a fact about these two, so the ten actions are gone through here and in few places else.
+-- step is a fact about these two, so the ten actions are gone through here and seldom elsewhere.
 -- Main results: `effect-split`, `phase-after`, `named-after`, `allowed`.
 use mathlib.Core.Path.{_≡_, refl, sym, _∙_, ap, subst}
 use mathlib.Core.Bool.{Bool, true, false, cond, not, _&&_, _||_}
@@ -456,22 +456,22 @@ ignored-frame adjusts r p (Adjust j c x) e = refl
 sends-if : (k : Kind) (b o : Bool) (x : Sending) → b ≡ false → o ≡ true → namedIn k (cond b nothing (cond o x nothing)) ≡ namedIn k x
 sends-if k b o x t u = rw (t, u) refl
 
-pub heard-sending : (k : Kind) (r : HeadRecord) (a : Action) (c : ℕ) → number a ≡ delivery k → named (deliveryIn a .frame) ≡ SomeNumber c
+pub delivered-sending : (k : Kind) (r : HeadRecord) (a : Action) (c : ℕ) → number a ≡ delivery k → named (deliveryIn a .frame) ≡ SomeNumber c
     → passedOver k r (deliveryIn a .sender) (serialOf (deliveryIn a .frame)) ≡ false → outranks c (phaseOf k r .choice) ≡ true → namedIn k (sendingOf r a) ≡ SomeNumber c
-heard-sending k r Look c nu na t u = none-is-some na
-heard-sending k r StartSent c nu na t u = none-is-some na
-heard-sending k r (StartDelivered p) c nu na t u = none-is-some na
-heard-sending k r StartConfirmed c nu na t u = none-is-some na
-heard-sending k r VoteTurn c nu na t u = none-is-some na
-heard-sending votes r (VoteDelivered p j w x) c nu na t u =
+delivered-sending k r Look c nu na t u = none-is-some na
+delivered-sending k r StartSent c nu na t u = none-is-some na
+delivered-sending k r (StartDelivered p) c nu na t u = none-is-some na
+delivered-sending k r StartConfirmed c nu na t u = none-is-some na
+delivered-sending k r VoteTurn c nu na t u = none-is-some na
+delivered-sending votes r (VoteDelivered p j w x) c nu na t u =
     sends-if votes (passedOver votes r p j) (outranks w (r .vote .choice)) (voting w) t (rw (same-number na) u) ∙ na
-heard-sending adjusts r (VoteDelivered p j w x) c nu na t u = absurd (omega arith)
-heard-sending k r VoteClose c nu na t u = none-is-some na
-heard-sending k r AdjustTurn c nu na t u = none-is-some na
-heard-sending votes r (AdjustDelivered p j w x) c nu na t u = absurd (omega arith)
-heard-sending adjusts r (AdjustDelivered p j w x) c nu na t u =
+delivered-sending adjusts r (VoteDelivered p j w x) c nu na t u = absurd (omega arith)
+delivered-sending k r VoteClose c nu na t u = none-is-some na
+delivered-sending k r AdjustTurn c nu na t u = none-is-some na
+delivered-sending votes r (AdjustDelivered p j w x) c nu na t u = absurd (omega arith)
+delivered-sending adjusts r (AdjustDelivered p j w x) c nu na t u =
     sends-if adjusts (passedOver adjusts r p j) (outranks w (r .adjust .choice)) (adjusting w x) t (rw (same-number na) u) ∙ na
-heard-sending k r AdjustClose c nu na t u = none-is-some na
+delivered-sending k r AdjustClose c nu na t u = none-is-some na
 
 -- A HEAD'S OWN VOTE READING
 

@@ -22,7 +22,7 @@ use Rattle.protocol.specs.Run.{Event, History, recordOf, frameSent, isFr
 use Rattle.protocol.proofs.Tests.{absurd-bool, cases, or-second, eqb-same, count-some, some-count}
 use Rattle.protocol.proofs.Effects.{Kind, votes, adjusts, phaseOf, number, prepared, Sending, send, Allowed, sends-nothing, sends-start, sends-vote, sends-adjust, allowed, none-is-some, same-number, closed-last, start-once}
 use Rattle.protocol.proofs.Valid.{baseOf, Taken, Valid, start, more, accepted-sheet, record-at, record-other, by-head, of-effect}
-use Rattle.protocol.proofs.Phases.{names, held, sent, Origin, own, heard, SendsOne, Turn, sends-none, sends-one, turn, names-other, sent-other, outranks-below, frame-new, frame-stays, serial-below, unsent, AtMost, falls}
+use Rattle.protocol.proofs.Phases.{names, held, sent, Origin, own, reached, SendsOne, Turn, sends-none, sends-one, turn, names-other, sent-other, outranks-below, frame-new, frame-stays, serial-below, unsent, AtMost, falls}
 
 -- the number of events at which a frame was sent
 unfoldable pub framesIn : History → ℕ
@@ -138,7 +138,7 @@ module _ (g : Setting) (k : Kind) where
       go : {s : History} {e : Event} → Taken g s e → Valid g s → ((p c : ℕ) → SentFor s p c → SentFor s c c) → (z : SendsOne g k s e) → Origin g k s e (z .choice)
           → SentFor (e ∷ s) (z .choice) (z .choice)
       go {s} {e} t v old z (own o none tu) = subst (λ (q : ℕ). SentFor (e ∷ s) q (z .choice)) (sym o) (sent-new v z)
-      go {s} {e} t v old z (heard a na) = sent-stays t v _ _ (old (e .entry .sender) (z .choice) (e .entry .serial, na))
+      go {s} {e} t v old z (reached a na) = sent-stays t v _ _ (old (e .entry .sender) (z .choice) (e .entry .serial, na))
 
   -- a head that has a choice does not begin to name itself
   itself-before : {s : History} {e : Event} → Taken g s e → Valid g s → (p w : ℕ) → held g k s p ≡ SomeNumber w → SentFor (e ∷ s) p p → SentFor s p p
@@ -150,7 +150,7 @@ module _ (g : Setting) (k : Kind) where
     where
       go : {c : ℕ} → held g k s (e .entry .head) ≡ SomeNumber w → Origin g k s e c → c ≡ e .entry .head → SentFor s (e .entry .head) (e .entry .head)
       go h (own o none tu) eq = none-is-some (sym none ∙ h)
-      go h (heard a na) eq = sent-itself v (e .entry .sender) (e .entry .head) (e .entry .serial, na ∙ ap (λ (q : ℕ). SomeNumber q) eq)
+      go h (reached a na) eq = sent-itself v (e .entry .sender) (e .entry .head) (e .entry .serial, na ∙ ap (λ (q : ℕ). SomeNumber q) eq)
 
   -- a head that has named itself has named none above it
   pub own-first : {s : History} → Valid g s → (p c : ℕ) → SentFor s p c → SentFor s p p → c ≤ p

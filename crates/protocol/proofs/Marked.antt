@@ -13,7 +13,7 @@ use Rattle.protocol.specs.Counter.{counterReading}
 use Rattle.protocol.specs.Causes.{sheetVerdict}
 use Rattle.protocol.specs.Run.{recordOf, frameSent, inputOf, stepEntry, andThen, runOf, runSheet}
 use Rattle.protocol.specs.Results.{outcomeWord, adjustmentWord, startWord, wordsFrom, resultWords, replay}
-use Rattle.protocol.specs.Premises.{each, before, lastStart, premise1, premise2, startHeard, premise3, premise4, reached, votesHeard, premise5, noneBetween, premise6, adjustsHeard, premise7, premise8, firstBroken, judge}
+use Rattle.protocol.specs.Premises.{each, before, lastStart, premise1, premise2, startWithin, premise3, premise4, framesReached, votesReached, premise5, noneBetween, premise6, adjustsReached, premise7, premise8, firstBroken, judge}
 use Rattle.protocol.specs.Claim.{endingInWords}
 use Rattle.protocol.specs.Program.{decimal, signed, line, headLines, refusedLine, printSheet}
 use Rattle.protocol.specs.Marked.{Case, m1, lookAt, marked}
@@ -29,7 +29,7 @@ all-pass : all passes marked ≡ true
 unfolding settingOf firstWordFits entryOf entryFits fresh chosenStart outcome correction correctedClock median
     vote adjust startsHeld mayLead lead voteReadings mayAdjust propose delivered effect isClosed takeAction actionOf counterReading sheetVerdict
     recordOf frameSent inputOf stepEntry andThen runOf runSheet outcomeWord adjustmentWord startWord wordsFrom resultWords replay
-    each before lastStart premise1 premise2 startHeard premise3 premise4 reached votesHeard premise5 noneBetween premise6 adjustsHeard premise7 premise8 firstBroken judge
+    each before lastStart premise1 premise2 startWithin premise3 premise4 framesReached votesReached premise5 noneBetween premise6 adjustsReached premise7 premise8 firstBroken judge
     endingInWords decimal signed line headLines refusedLine printSheet m1 lookAt marked
 all-pass = refl
 

@@ -20,7 +20,7 @@ use Rattle.protocol.specs.Premises.{takes, receives, received}
 use Rattle.protocol.specs.Premises as Premises
 use Rattle.protocol.proofs.Tests.{absurd-bool, and-left, and-right, and-both, or-first, or-right, or-cases, not-true, not-false, eqb-same}
 use Rattle.protocol.proofs.Moments.{Earlier, now, later, any-grows, find}
-use Rattle.protocol.proofs.Effects.{Kind, votes, adjusts, phaseOf, takenOf, delivery, closing, deliveryIn, deliveredBy, serialOf, named, namedBy, taken, passedOver, ignored, Delivery, prepared, Sending, sendingOf, namedIn, chosenBy, namedUnder, prepared-choice, prepared-sent, phase-last, chosen-turn, chosen-closed, phase-after, named-after, allowed, naming, Why, itself, told, none-is-some, same-number, closed-last, taken-after, ignored-frame, heard-sending}
+use Rattle.protocol.proofs.Effects.{Kind, votes, adjusts, phaseOf, takenOf, delivery, closing, deliveryIn, deliveredBy, serialOf, named, namedBy, taken, passedOver, ignored, Delivery, prepared, Sending, sendingOf, namedIn, chosenBy, namedUnder, prepared-choice, prepared-sent, phase-last, chosen-turn, chosen-closed, phase-after, named-after, allowed, naming, Why, itself, told, none-is-some, same-number, closed-last, taken-after, ignored-frame, delivered-sending}
 use Rattle.protocol.proofs.Valid.{baseOf, Taken, Valid, start, more, frame-fits, record-at, record-other, by-head, of-effect, fixed, keptNext, kept-at, closed-took}
 
 -- the first of two that is there
@@ -134,7 +134,7 @@ module _ (g : Setting) (k : Kind) where
   -- whom a head names: itself, if it has no choice, or one whom the frame that it is delivered names
   pub data Origin (s : History) (e : Event) (c : ℕ) : Type 0 where
     own : c ≡ e .entry .head → held s (e .entry .head) ≡ NoNumber → phaseOf k (recordOf g (e ∷ s) (e .entry .head)) .turn ≡ true → Origin s e c
-    heard : e .entry .action ≡ delivery k → names s (e .entry .sender) (e .entry .serial) ≡ SomeNumber c → Origin s e c
+    reached : e .entry .action ≡ delivery k → names s (e .entry .sender) (e .entry .serial) ≡ SomeNumber c → Origin s e c
 
   -- what an event does to its head's choice and frames: nothing, or the head sends one that names a choice
   pub record SendsNone (s : History) (e : Event) : Type 0 where
@@ -186,7 +186,7 @@ module _ (g : Setting) (k : Kind) where
       (ap (λ (p : Phase). p .turn) (phase-at t) ∙ chosen-turn (namedIn k (sendingAt t)) _ ∙ tu)
   origin-at {s} {e} t v c (told nu na) =
       let is : e .entry .action ≡ delivery k = sym (t .asked .number-is) ∙ nu in
-      heard is (subst (λ (a : ℕ). named (frameSent s a (e .entry .sender) (e .entry .serial)) ≡ SomeNumber c) is
+      reached is (subst (λ (a : ℕ). named (frameSent s a (e .entry .sender) (e .entry .serial)) ≡ SomeNumber c) is
       (ap (λ (d : Delivery). named (d .frame)) (sym (t .asked .delivery-is)) ∙ na))
 
   pub turn : {s : History} {e : Event} → Taken g s e → Valid g s → Turn s e
@@ -290,7 +290,7 @@ module _ (g : Setting) (k : Kind) where
 
           go : (o : Bool) → outranks c (phaseOf k r .choice) ≡ o → (w : ℕ) × (held (e ∷ s) (e .entry .head) ≡ SomeNumber w) × (w ≤ c)
           go true o =
-              let named-it = heard-sending k r (t .action) c (t .asked .number-is ∙ a) in-action not-passed o in
+              let named-it = delivered-sending k r (t .action) c (t .asked .number-is ∙ a) in-action not-passed o in
               (c, ap (λ (z : Phase). z .choice) (phase-at t) ∙ rw named-it refl, omega arith)
           go false o =
               let w = not-outranked c (phaseOf k r .choice) o in

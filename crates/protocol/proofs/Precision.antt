@@ -14,7 +14,7 @@ use Rattle.protocol.specs.Types.{HeadRecord, Setting}
 use Rattle.protocol.specs.Words.{isCorrect}
 use Rattle.protocol.specs.Record.{startOf}
 use Rattle.protocol.specs.Run.{Event, History, recordOf}
-use Rattle.protocol.specs.Premises.{takes, receives, took, correctTakes, premise3, isSteady, lastStart, startHeard}
+use Rattle.protocol.specs.Premises.{takes, receives, took, correctTakes, premise3, isSteady, lastStart, startWithin}
 use Rattle.protocol.specs.Claim.{CorrectHead, apart}
 use Rattle.protocol.proofs.Tests.{absurd-bool, cases, and-left, and-right, and-both, implied, not-true}
 use Rattle.protocol.proofs.Signed.{difference-of, difference-pos, difference-add, difference-sub, difference-abs}
@@ -74,7 +74,7 @@ module _ {g : Setting} {h : History} (r : Round g h) where
       let from : e .entry .sender ≡ c = eqb-true _ c (and-left (eqb (e .entry .sender) c) _ (and-right (takes 2 q e) _ u)) in
       let at-correct : correctTakes g 2 e ≡ true = and-both (ap (isCorrect g) (eqb-true _ q (and-left (eqb (e .entry .head) q) _ taken)) ∙ cq .is-correct) (and-right (eqb (e .entry .head) q) _ taken) in
       absurd-bool t (subst (λ (v : ℕ). took 3 v s ≡ false) from
-      (not-true (implied (correctTakes g 2 e) _ (and-right (eqb (e .entry .action) 3 ⇒ startHeard g (e .entry .head) s) _ (each-at _ (r .p3) x)) at-correct))))
+      (not-true (implied (correctTakes g 2 e) _ (and-right (eqb (e .entry .action) 3 ⇒ startWithin g (e .entry .head) s) _ (each-at _ (r .p3) x)) at-correct))))
       (λ u. u)
 
   -- so its start reading stays, and the time of that start

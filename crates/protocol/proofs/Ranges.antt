@@ -181,7 +181,7 @@ vote-readings-below {r} h (suc p) b = every-prepend (λ x. x < 2 ^ 28) (voteOf r
 
 -- AN EFFECT: first what is kept of the action
 
--- what holds of every place, and of the element written, holds of every place after the write
+-- what holds at every index, and of the element written, holds at every index after the write
 set-holds : (P : ℕ → Sender → Type 0) (l : List Sender) (p : ℕ) (s : Sender) → P p s → ((q : ℕ) → P q (getD l q noSender)) → (q : ℕ) → P q (getD (set l p s) q noSender)
 set-holds P [] p s h k q = k q
 set-holds P (x ∷ l) zero s h k zero = h

@@ -12,13 +12,13 @@ use Rattle.protocol.specs.Base.{_⇒_, any, all, countBelow}
 use Rattle.protocol.specs.Types.{SomeNumber, Setting, Kept}
 use Rattle.protocol.specs.Words.{isCorrect}
 use Rattle.protocol.specs.Run.{Event, History, recordOf}
-use Rattle.protocol.specs.Premises.{takes, took, received, before, correctAll, correctTakes, premise1, premise2, premise3, premise4, premise5, premise6, premise7, premise8, premises, reached, votesHeard, adjustsHeard, noneBetween, firstBroken}
+use Rattle.protocol.specs.Premises.{takes, took, received, before, correctAll, correctTakes, premise1, premise2, premise3, premise4, premise5, premise6, premise7, premise8, premises, framesReached, votesReached, adjustsReached, noneBetween, firstBroken}
 use Rattle.protocol.specs.Claim.{CorrectHead}
 use Rattle.protocol.proofs.Tests.{absurd-bool, cases, and-left, and-right, and-both, or-first, implied, not-true, eqb-same, all-below, count-some}
 use Rattle.protocol.proofs.Moments.{Earlier, now, later, earlier-past, any-grows, any-map, First, first-of, before-stays, find-after, each-at}
 use Rattle.protocol.proofs.Effects.{Kind, votes, adjusts, delivery, closing, none-is-some, same-number}
 use Rattle.protocol.proofs.Valid.{Valid, valid-past, valid-taken, valid-earlier, Taken, Sheet, by-head, closed-took}
-use Rattle.protocol.proofs.Phases.{held, sent, isOver, held-other, Origin, own, heard, Turn, sends-none, sends-one, SendsOne, turn, agree}
+use Rattle.protocol.proofs.Phases.{held, sent, isOver, held-other, Origin, own, reached, Turn, sends-none, sends-one, SendsOne, turn, agree}
 
 pub record Round (g : Setting) (h : History) : Type 0 where
   pub sheet : Sheet g h
@@ -127,23 +127,23 @@ module _ {g : Setting} {h : History} (r : Round g h) (k : Kind) where
   still-open x {q} c = closed-took g k (valid-earlier x valid-moment) q ∙ none-closed x c
 
   -- premises 5 and 7: by then every frame of a correct head reached the other correct heads
-  reached-at : (s : History) (p : ℕ) → reached g (delivery k) (sent g k s p) s p ≡ true → (j : ℕ) → j < sent g k s p
+  reached-at : (s : History) (p : ℕ) → framesReached g (delivery k) (sent g k s p) s p ≡ true → (j : ℕ) → j < sent g k s p
       → {q : ℕ} → CorrectHead g q → eqb q p ≡ false → received (delivery k) p j q s ≡ true
-  unfolding reached
+  unfolding framesReached
   reached-at s p e j l {q} c d =
       implied (not (eqb q p)) _ (correct-at (λ q. not (eqb q p) ⇒ received (delivery k) p j q s)
       (all-below (sent g k s p) (λ j. correctAll g (λ q. not (eqb q p) ⇒ received (delivery k) p j q s)) e j l) c) (rw d refl)
 
 -- premises 5 and 7 at their moments
 module _ {g : Setting} {h : History} (r : Round g h) where
-  pub votes-heard : {q : ℕ} → CorrectHead g q
+  pub votes-reached : {q : ℕ} → CorrectHead g q
       → ((took 5 q (moment r votes) || (took 1 q (moment r votes) && (took 3 q (moment r votes) && took 4 q (moment r votes)))) ≡ true)
       × ((took 1 q (moment r votes) ⇒ correctAll g (λ p. received 2 q 0 p (moment r votes))) ≡ true)
-      × (reached g 5 (sent g votes (moment r votes) q) (moment r votes) q ≡ true)
-  unfolding premise5 votesHeard
-  votes-heard {q} c =
+      × (framesReached g 5 (sent g votes (moment r votes) q) (moment r votes) q ≡ true)
+  unfolding premise5 votesReached
+  votes-reached {q} c =
       let s = moment r votes in
-      let e = correct-at (λ p. (took 5 p s || (took 1 p s && (took 3 p s && took 4 p s))) && ((took 1 p s ⇒ correctAll g (λ q. received 2 p 0 q s)) && reached g 5 (recordOf g s p .vote .sent) s p))
+      let e = correct-at (λ p. (took 5 p s || (took 1 p s && (took 3 p s && took 4 p s))) && ((took 1 p s ⇒ correctAll g (λ q. received 2 p 0 q s)) && framesReached g 5 (recordOf g s p .vote .sent) s p))
       (implied (any (correctTakes g 6) h) _ (r .p5) (has-close r votes)) c in
       let e2 = and-right (took 5 q s || (took 1 q s && (took 3 q s && took 4 q s))) _ e in (
         and-left (took 5 q s || (took 1 q s && (took 3 q s && took 4 q s))) _ e,
@@ -151,16 +151,16 @@ module _ {g : Setting} {h : History} (r : Round g h) where
         and-right (took 1 q s ⇒ correctAll g (λ p. received 2 q 0 p s)) _ e2,
       )
 
-  pub adjusts-heard : {q : ℕ} → CorrectHead g q → (took 7 q (moment r adjusts) ≡ true) × (reached g 8 (sent g adjusts (moment r adjusts) q) (moment r adjusts) q ≡ true)
-  unfolding premise7 adjustsHeard
-  adjusts-heard {q} c =
+  pub adjusts-reached : {q : ℕ} → CorrectHead g q → (took 7 q (moment r adjusts) ≡ true) × (framesReached g 8 (sent g adjusts (moment r adjusts) q) (moment r adjusts) q ≡ true)
+  unfolding premise7 adjustsReached
+  adjusts-reached {q} c =
       let s = moment r adjusts in
-      let e = correct-at (λ p. took 7 p s && reached g 8 (recordOf g s p .adjust .sent) s p) (implied (any (correctTakes g 9) h) _ (r .p7) (has-close r adjusts)) c in
+      let e = correct-at (λ p. took 7 p s && framesReached g 8 (recordOf g s p .adjust .sent) s p) (implied (any (correctTakes g 9) h) _ (r .p7) (has-close r adjusts)) c in
       (and-left (took 7 q s) _ e, and-right (took 7 q s) _ e)
 
-  all-reached : (k : Kind) {p : ℕ} → CorrectHead g p → reached g (delivery k) (sent g k (moment r k) p) (moment r k) p ≡ true
-  all-reached votes c = votes-heard c .2
-  all-reached adjusts c = adjusts-heard c .1
+  all-reached : (k : Kind) {p : ℕ} → CorrectHead g p → framesReached g (delivery k) (sent g k (moment r k) p) (moment r k) p ≡ true
+  all-reached votes c = votes-reached c .2
+  all-reached adjusts c = adjusts-reached c .1
 
 module _ {g : Setting} {h : History} (r : Round g h) (k : Kind) where
   pub reaches : {p q : ℕ} → CorrectHead g p → CorrectHead g q → eqb q p ≡ false → (j : ℕ) → j < sent g k (moment r k) p → received (delivery k) p j q (moment r k) ≡ true
@@ -174,9 +174,9 @@ module _ {g : Setting} {h : History} (r : Round g h) (k : Kind) where
       (reaches cp cq (ne-eqb q p (λ e. eqb-false p q d (sym e)))) (reaches cq cp d) (still-open r k now cp) (still-open r k now cq))
 
   -- premises 6 and 8: a frame that reaches a correct head after the first correct close finds it closed
-  quiet-premise : noneBetween g k h ≡ true
+  none-between : noneBetween g k h ≡ true
   unfolding premise6 premise8
-  quiet-premise = go k
+  none-between = go k
     where
       go : (k : Kind) → noneBetween g k h ≡ true
       go votes = r .p6
@@ -191,7 +191,7 @@ module _ {g : Setting} {h : History} (r : Round g h) (k : Kind) where
       let b = find-after (takes (closing k) (e .entry .head)) x (closes r k c) open-yet in
       let is : b .event .entry .head ≡ e .entry .head = eqb-true _ _ (and-left (eqb (b .event .entry .head) (e .entry .head)) _ (b .holds)) in
       let closing-it : isClose r k (b .event) ≡ true = and-both (ap (isCorrect g) is ∙ c .is-correct) (and-right (eqb (b .event .entry .head) (e .entry .head)) _ (b .holds)) in
-      let inner = implied (isClose r k (b .event)) _ (each-at _ quiet-premise (b .there)) closing-it in
+      let inner = implied (isClose r k (b .event)) _ (each-at _ none-between (b .there)) closing-it in
       let here = implied (correctTakes g (delivery k) e) _ (each-at _ inner (b .since)) (and-both (c .is-correct) (eq-eqb _ _ a)) in
       absurd-bool begun (not-true here))
 
@@ -219,7 +219,7 @@ module _ {g : Setting} {h : History} (r : Round g h) (k : Kind) where
       where
         silent : (x : SendsOne g k s e) → CorrectHead g (e .entry .head) → Origin g k s e (x .choice) → ⊥
         silent x c (own is none tu) = none-is-some (sym none ∙ z (e .entry .head) c)
-        silent x c (heard a n) = absurd-bool (finds c a) (x .was-open)
+        silent x c (reached a n) = absurd-bool (finds c a) (x .was-open)
 
         go : CorrectHead g (e .entry .head) → Turn g k s e → held g k (e ∷ s) (e .entry .head) ≡ SomeNumber chosen
         go c (sends-none x) = x .held-same ∙ z (e .entry .head) c

@@ -22,7 +22,7 @@ use Rattle.protocol.proofs.Effects.{votes, adjusts, deliveredBy, withSe
 use Rattle.protocol.proofs.Effects as Effects
 use Rattle.protocol.proofs.Valid.{baseOf, Taken, Valid, start, more, record-other, by-head, invariant, keptNext, kept-at, closed-took, confirmed-took}
 use Rattle.protocol.proofs.Ranges.{run-in-range}
-use Rattle.protocol.proofs.Phases.{held, names, names-other, Origin, own, heard, turn, frame-new, last-frame, held-sent}
+use Rattle.protocol.proofs.Phases.{held, names, names-other, Origin, own, reached, turn, frame-new, last-frame, held-sent}
 
 -- a frame that action 2 delivers is a start
 is-start : (x : Frame) → deliveredBy x ≡ 2 → x ≡ Start
@@ -185,7 +185,7 @@ module _ (g : Setting) (small : g .n ≤ 16) where
         new : (c : ℕ) → Origin g votes s e c → ((p j c : ℕ) → names g votes s p j ≡ SomeNumber c → took 3 c s ≡ true) → took 3 c (e ∷ s) ≡ true
         new c (own is none tu) ih =
             subst (λ (q : ℕ). took 3 q (e ∷ s) ≡ true) (sym is) (sym (confirmed-took g (more t v) (e .entry .head)) ∙ run-in-range fit (more t v) (e .entry .head) (t .head-below) .marks .turn tu)
-        new c (heard a n) ih = or-second (takes 3 c e) _ (ih _ _ c n)
+        new c (reached a n) ih = or-second (takes 3 c e) _ (ih _ _ c n)
 
     pub candidate-confirmed : {s : History} → Valid g s → (q c : ℕ) → held g votes s q ≡ SomeNumber c → took 3 c s ≡ true
     candidate-confirmed {s} v q c h =

@@ -114,7 +114,7 @@ module _ {A : Type 0} where
   all-in p {x = x} first e = and-left (p x) _ e
   all-in p (next {y = y} m) e = all-in p m (and-right (p y) _ e)
 
--- a test that holds all over a list holds at each of its places
+-- a test that holds all over a list holds at each index
 pub all-at : {A : Type 0} (t : A → Bool) (l : List A) (d : A) → all t l ≡ true → (i : ℕ) → i < length l → t (getD l i d) ≡ true
 all-at t [] d e i h = absurd (not-suc-le-zero h)
 all-at t (x ∷ l) d e zero h = and-left (t x) _ e

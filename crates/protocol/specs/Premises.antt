@@ -79,14 +79,14 @@ module _ (g : Setting) where
 
   -- "3. A start confirmed by any head was delivered earlier to every correct head, their last deliveries lie within the
   -- tightness, and none reaches a correct head later"
-  unfoldable pub startHeard : ℕ → History → Bool
-  startHeard v s =
+  unfoldable pub startWithin : ℕ → History → Bool
+  startWithin v s =
       correctAll (λ q. received 2 v 0 q s)
       && correctAll (λ p. correctAll (λ q. leb (distance (lastStart s v p) (lastStart s v q)) (g .tightness)))
 
   unfoldable pub premise3 : History → Bool
   premise3 h =
-      each (λ e s. (eqb (e .entry .action) 3 ⇒ startHeard (e .entry .head) s)
+      each (λ e s. (eqb (e .entry .action) 3 ⇒ startWithin (e .entry .head) s)
       && (correctTakes 2 e ⇒ not (took 3 (e .entry .sender) s))) h
 
   -- "4. Every correct head takes actions 6, 7 and 9"
@@ -94,18 +94,18 @@ module _ (g : Setting) where
   premise4 h = correctAll (λ q. took 6 q h && (took 7 q h && took 9 q h))
 
   -- each frame that p sent by the moment s, under the serials below the count, reached by then all other correct heads
-  unfoldable pub reached : ℕ → ℕ → History → ℕ → Bool
-  reached a count s p = allBelow count (λ k. correctAll (λ q. not (eqb q p) ⇒ received a p k q s))
+  unfoldable pub framesReached : ℕ → ℕ → History → ℕ → Bool
+  framesReached a count s p = allBelow count (λ k. correctAll (λ q. not (eqb q p) ⇒ received a p k q s))
 
   -- "5. Before the first correct vote close, every correct head either took all of 1, 3 and 4 or was delivered a vote;
   -- each start a correct head sent by then reached, by then, all correct heads, and each vote all other correct heads"
-  unfoldable pub votesHeard : History → Bool
-  votesHeard s =
+  unfoldable pub votesReached : History → Bool
+  votesReached s =
       correctAll (λ p. (took 5 p s || (took 1 p s && (took 3 p s && took 4 p s)))
-      && ((took 1 p s ⇒ correctAll (λ q. received 2 p 0 q s)) && reached 5 (recordOf g s p .vote .sent) s p))
+      && ((took 1 p s ⇒ correctAll (λ q. received 2 p 0 q s)) && framesReached 5 (recordOf g s p .vote .sent) s p))
 
   unfoldable pub premise5 : History → Bool
-  premise5 h = any (correctCloses votes) h ⇒ votesHeard (before (correctCloses votes) h)
+  premise5 h = any (correctCloses votes) h ⇒ votesReached (before (correctCloses votes) h)
 
   -- "6. From the first to the last correct vote close no vote reaches a correct head": when one closes, none has been
   -- delivered since the first close
@@ -118,11 +118,11 @@ module _ (g : Setting) where
 
   -- "7. Before the first correct adjust close, every correct head took 7, and each adjust sent by a correct head by then
   -- reached, by then, all other correct heads"
-  unfoldable pub adjustsHeard : History → Bool
-  adjustsHeard s = correctAll (λ p. took 7 p s && reached 8 (recordOf g s p .adjust .sent) s p)
+  unfoldable pub adjustsReached : History → Bool
+  adjustsReached s = correctAll (λ p. took 7 p s && framesReached 8 (recordOf g s p .adjust .sent) s p)
 
   unfoldable pub premise7 : History → Bool
-  premise7 h = any (correctCloses adjusts) h ⇒ adjustsHeard (before (correctCloses adjusts) h)
+  premise7 h = any (correctCloses adjusts) h ⇒ adjustsReached (before (correctCloses adjusts) h)
 
   -- "8. As 6, for adjusts and adjust closes"
   unfoldable pub premise8 : History → Bool

@@ -1,5 +1,5 @@
 // What a program written in C calls to replay and judge a sheet; include/daisarnica_sheet.h declares it.
-use data_causes::cause_number;
+use data_values::cause_number;
 use judge_sheet::replay_and_judge;
 use protocol::Judged;
 use protocol::Replayed;

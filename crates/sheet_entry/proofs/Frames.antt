@@ -1,4 +1,4 @@
--- The arrays of frames sent, after an accepted entry: a vote or adjust that it sends is stored at its own place, which nothing
+-- The arrays of frames sent, after an accepted entry: a vote or adjust that it sends is stored at its own index, which nothing
 -- stood at; any other frame leaves them.
 -- Main results: `stores-frame`, `keeps-frames`.
 use mathlib.Core.Path.{_≡_, refl, sym, _∙_, ap, ap₂, subst}
@@ -26,9 +26,9 @@ use Rattle.protocol.proofs.Effects.{named, serialOf}
 use Rattle.protocol.proofs.Valid.{Taken, Valid, more}
 use Rattle.protocol.proofs.Ranges.{FrameInRange, frames-in-range}
 use Rattle.protocol.proofs.Runs.{sent-before, sent-now}
-use Rattle.sheet_state.specs.Places.{placeFor}
+use Rattle.sheet_state.specs.Indices.{frameIndex}
 use Rattle.sheet_state.specs.Arrays.{actionAt, headAt, serialAt, frameAt, choicesOf, carriedOf, answerAt, eventAt, Stands, Carries}
-use Rattle.sheet_state.proofs.Places.{place-fields, frame-at-place, fields-place}
+use Rattle.sheet_state.proofs.Indices.{index-fields, frame-at-index, fields-index}
 use Rattle.sheet_state.proofs.Standing.{heads-few, at-most-16, valid-history, next-taken}
 
 -- THE PLACES OF ONE FRAME
@@ -48,22 +48,22 @@ delivered-once adjusts i a j Start p q = absurd-bool p refl
 delivered-once adjusts i a j (Vote m c x) p q = absurd-bool p refl
 delivered-once adjusts i a j (Adjust m c x) p q = (eqb-true a 8 (and-left (eqb a 8) _ q), sym (eqb-true m j (and-right (eqb a 8) _ q)) ∙ eqb-true m i p)
 
--- so it stands at its own place only
-other-place : (e : Event) (k : Kind) (i : ℕ) → isDeliveredBy (delivery k) i (e .frame) ≡ true → (j : ℕ) → j < 512 → eqb j (placeFor (delivery k) (e .entry .head) i) ≡ false
+-- so it stands at its own index only
+other-index : (e : Event) (k : Kind) (i : ℕ) → isDeliveredBy (delivery k) i (e .frame) ≡ true → (j : ℕ) → j < 512 → eqb j (frameIndex (delivery k) (e .entry .head) i) ≡ false
     → standsAt e j ≡ false
-other-place e k i d j below other =
+other-index e k i d j below other =
     cases (standsAt e j)
     (λ t. let head = eqb-true (e .entry .head) (headAt j) (and-left (eqb (e .entry .head) (headAt j)) _ t) in
     let once = delivered-once k i (actionAt j) (serialAt j) (e .frame) d (and-right (eqb (e .entry .head) (headAt j)) _ t) in
-    absurd (eqb-false j _ other (sym (fields-place k j below (once .0)) ∙ ap₂ (placeFor (delivery k)) (sym head) (once .1))))
+    absurd (eqb-false j _ other (sym (fields-index k j below (once .0)) ∙ ap₂ (frameIndex (delivery k)) (sym head) (once .1))))
     (λ t. t)
 
 -- what is neither stands nowhere
-no-place : (x : Frame) → sentOf x .kind < 5 → (j : ℕ) → isDeliveredBy (actionAt j) (serialAt j) x ≡ false
-no-place NoFrame h j = refl
-no-place Start h j = cond-elim (λ (a : ℕ). eqb a 2 ≡ false) (ltb j 256) (λ _. refl) (λ _. refl)
-no-place (Vote i c x) h j = absurd (omega arith)
-no-place (Adjust i c x) h j = absurd (omega arith)
+no-index : (x : Frame) → sentOf x .kind < 5 → (j : ℕ) → isDeliveredBy (actionAt j) (serialAt j) x ≡ false
+no-index NoFrame h j = refl
+no-index Start h j = cond-elim (λ (a : ℕ). eqb a 2 ≡ false) (ltb j 256) (λ _. refl) (λ _. refl)
+no-index (Vote i c x) h j = absurd (omega arith)
+no-index (Adjust i c x) h j = absurd (omega arith)
 
 and-false : (a : Bool) {b : Bool} → b ≡ false → (a && b) ≡ false
 and-false true e = e
@@ -76,17 +76,17 @@ module _ (part : Frame → ℕ) where
   arrayOf s = table (λ j. part (frameAt s j)) 0 512
 
   stored : {g : Setting} {s : History} {e : Event} → Taken g s e → Valid g s → e .entry .head < 16 → (k : Kind) (i : ℕ) → i < 16 → isDeliveredBy (delivery k) i (e .frame) ≡ true
-      → set (arrayOf s) (placeFor (delivery k) (e .entry .head) i) (part (e .frame)) ≡ arrayOf (e ∷ s)
+      → set (arrayOf s) (frameIndex (delivery k) (e .entry .head) i) (part (e .frame)) ≡ arrayOf (e ∷ s)
   stored {g} {s} {e} t v head k i serial d =
-      set-table (λ j. part (frameAt s j)) (λ j. part (frameAt (e ∷ s) j)) 512 _ (part (e .frame)) 0 (place-fields k (e .entry .head) i head serial .0)
-      (ap part (frame-at-place (e ∷ s) k (e .entry .head) i head serial ∙ sent-now g k t v i d))
-      (λ j below other. ap part (sent-before e s (actionAt j) (headAt j) (serialAt j) (other-place e k i d j below other)))
+      set-table (λ j. part (frameAt s j)) (λ j. part (frameAt (e ∷ s) j)) 512 _ (part (e .frame)) 0 (index-fields k (e .entry .head) i head serial .0)
+      (ap part (frame-at-index (e ∷ s) k (e .entry .head) i head serial ∙ sent-now g k t v i d))
+      (λ j below other. ap part (sent-before e s (actionAt j) (headAt j) (serialAt j) (other-index e k i d j below other)))
 
   unchanged : (s : History) (e : Event) → sentOf (e .frame) .kind < 5 → arrayOf s ≡ arrayOf (e ∷ s)
   unchanged s e h =
       is-table (λ j. part (frameAt (e ∷ s) j)) 512 0 (arrayOf s) (length-table (λ j. part (frameAt s j)) 0 512)
       (λ j below. table-at (λ j. part (frameAt s j)) 512 j 0 below
-      ∙ ap part (sym (sent-before e s (actionAt j) (headAt j) (serialAt j) (and-false (eqb (e .entry .head) (headAt j)) (no-place (e .frame) h j)))))
+      ∙ ap part (sym (sent-before e s (actionAt j) (headAt j) (serialAt j) (and-false (eqb (e .entry .head) (headAt j)) (no-index (e .frame) h j)))))
 
 -- BOTH ARRAYS
 
@@ -131,7 +131,7 @@ module _ {ws : List ℕ} {i : ℕ} {s : History} {heads : List (List ℕ)} (now 
         carried-are = kept .carried-are ∙ unchanged (λ x. sentOf x .carried) s (eventAt ws i s) small;
       }
 
-  pub stores-frame : {h : ℕ} → h ≡ entryAt ws i .head → 5 ≤ x .kind → {at : ℕ} → at ≡ placeFor (x .kind % 256) h (x .serial % 256)
+  pub stores-frame : {h : ℕ} → h ≡ entryAt ws i .head → 5 ≤ x .kind → {at : ℕ} → at ≡ frameIndex (x .kind % 256) h (x .serial % 256)
       → Carries (eventAt ws i s ∷ s) (set choices at (x .choice % 256)) (set carried at (x .carried))
   unfolding choicesOf carriedOf
   stores-frame {h} head large {at} place =
@@ -169,11 +169,11 @@ module _ {ws : List ℕ} {i : ℕ} {s : History} {heads : List (List ℕ)} (now 
       choice-stored : x .choice % 256 ≡ carriedChoice y
       choice-stored = ap (λ (x : Sent). x .choice % 256) is ∙ ap (λ (c : ℕ). c % 256) (choice-is y) ∙ (let a = choice-below in omega arith)
 
-      at-is : at ≡ placeFor (delivery (k .phase)) (entryAt ws i .head) (sentOf y .serial)
+      at-is : at ≡ frameIndex (delivery (k .phase)) (entryAt ws i .head) (sentOf y .serial)
       at-is =
-          place ∙ ap₂ (λ (x : Sent) (h : ℕ). placeFor (x .kind % 256) h (x .serial % 256)) is head
-          ∙ ap₂ (λ (a j : ℕ). placeFor (a % 256) (entryAt ws i .head) j) (k .kind-is) (let a = serial-below in omega arith)
-          ∙ ap (λ (a : ℕ). placeFor a (entryAt ws i .head) (sentOf y .serial)) (small (k .phase))
+          place ∙ ap₂ (λ (x : Sent) (h : ℕ). frameIndex (x .kind % 256) h (x .serial % 256)) is head
+          ∙ ap₂ (λ (a j : ℕ). frameIndex (a % 256) (entryAt ws i .head) j) (k .kind-is) (let a = serial-below in omega arith)
+          ∙ ap (λ (a : ℕ). frameIndex a (entryAt ws i .head) (sentOf y .serial)) (small (k .phase))
         where
           small : (k : Kind) → delivery k % 256 ≡ delivery k
           small votes = refl

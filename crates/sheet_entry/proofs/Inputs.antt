@@ -23,9 +23,9 @@ use Rattle.protocol.proofs.Tests.{absurd-bool, and-left}
 use Rattle.protocol.proofs.Tables.{table-at}
 use Rattle.protocol.proofs.Valid.{frame-fits}
 use Rattle.protocol.proofs.Ranges.{frames-in-range}
-use Rattle.sheet_state.specs.Places.{placeFor}
+use Rattle.sheet_state.specs.Indices.{frameIndex}
 use Rattle.sheet_state.specs.Arrays.{frameAt, choicesOf, carriedOf, Stands, Carries}
-use Rattle.sheet_state.proofs.Places.{place-fields, frame-at-place}
+use Rattle.sheet_state.proofs.Indices.{index-fields, frame-at-index}
 use Rattle.sheet_state.proofs.Standing.{entry-sized, heads-few, valid-history}
 
 -- WHAT A FRAME CARRIES, by the numbers that are kept of it
@@ -71,9 +71,9 @@ module _ {ws : List ℕ} {i : ℕ} {s : History} {heads : List (List ℕ)} (now 
   delivers : {a : ℕ} → e .action ≡ a → Delivers a (e .serial) (frameOf s e)
   delivers a = subst (λ (a : ℕ). Delivers a (e .serial) (frameOf s e)) a (frame-fits s (e .action) (e .sender) (e .serial))
 
-  module _ (k : Kind) (a : e .action ≡ delivery k) (at : ℕ) (u : at ≡ placeFor (e .action) (e .sender) (e .serial)) where
-    at-is : at ≡ placeFor (delivery k) (e .sender) (e .serial)
-    at-is = u ∙ ap (λ (a : ℕ). placeFor a (e .sender) (e .serial)) a
+  module _ (k : Kind) (a : e .action ≡ delivery k) (at : ℕ) (u : at ≡ frameIndex (e .action) (e .sender) (e .serial)) where
+    at-is : at ≡ frameIndex (delivery k) (e .sender) (e .serial)
+    at-is = u ∙ ap (λ (a : ℕ). frameIndex a (e .sender) (e .serial)) a
 
     sender-sized : e .sender < 16
     sender-sized = subst (λ (e : Entry). e .sender < 16) (sym is) (entry-sized ws i .1)
@@ -82,11 +82,11 @@ module _ {ws : List ℕ} {i : ℕ} {s : History} {heads : List (List ℕ)} (now 
     serial-sized = subst (λ (e : Entry). e .serial < 16) (sym is) (entry-sized ws i .2)
 
     inside : at < 512
-    inside = rw at-is (place-fields k (e .sender) (e .serial) sender-sized serial-sized .0)
+    inside = rw at-is (index-fields k (e .sender) (e .serial) sender-sized serial-sized .0)
 
     frame-is : frameAt s at ≡ frameOf s e
     frame-is =
-        ap (frameAt s) at-is ∙ frame-at-place s k (e .sender) (e .serial) sender-sized serial-sized
+        ap (frameAt s) at-is ∙ frame-at-index s k (e .sender) (e .serial) sender-sized serial-sized
         ∙ ap (λ (a : ℕ). frameSent s a (e .sender) (e .serial)) (sym a)
 
     choice-kept : getD choices at 0 ≡ carriedChoice (frameOf s e)
@@ -100,14 +100,14 @@ module _ {ws : List ℕ} {i : ℕ} {s : History} {heads : List (List ℕ)} (now 
         ap (λ (l : List ℕ). getD l at 0) (kept .carried-are) ∙ table-at (λ j. sentOf (frameAt s j) .carried) 512 at 0 inside
         ∙ ap (λ (x : Frame). sentOf x .carried) frame-is
 
-  pub vote-input : e .action ≡ 5 → (at : ℕ) → at ≡ placeFor (e .action) (e .sender) (e .serial) → (x : ℕ) → x ≡ getD carried at 0 - 1
+  pub vote-input : e .action ≡ 5 → (at : ℕ) → at ≡ frameIndex (e .action) (e .sender) (e .serial) → (x : ℕ) → x ≡ getD carried at 0 - 1
       → inputWith e (getD choices at 0) x (eqb (getD carried at 0) 0) ≡ inputOf e (frameOf s e)
   vote-input a at u x less =
       let carries = vote-carries (e .serial) (frameOf s e) (delivers a) (frames-in-range (heads-few now) (valid-history now) (e .action) (e .sender) (e .serial) .reading) in
       let c = carried-kept votes a at u in
       input-is e (frameOf s e) (choice-kept votes a at u) (less ∙ ap (λ (x : ℕ). x - 1) c ∙ carries .0) (ap (λ (x : ℕ). eqb x 0) c ∙ carries .1 ∙ rw a refl)
 
-  pub adjust-input : e .action ≡ 8 → (at : ℕ) → at ≡ placeFor (e .action) (e .sender) (e .serial)
+  pub adjust-input : e .action ≡ 8 → (at : ℕ) → at ≡ frameIndex (e .action) (e .sender) (e .serial)
       → inputWith e (getD choices at 0) (getD carried at 0) false ≡ inputOf e (frameOf s e)
   adjust-input a at u =
       input-is e (frameOf s e) (choice-kept adjusts a at u) (carried-kept adjusts a at u ∙ adjust-carries (e .serial) (frameOf s e) (delivers a)) (rw a refl)

@@ -59,13 +59,13 @@ module _ {ws : List ℕ} {i : ℕ} {s : History} {heads : List (List ℕ)} (now 
       }
 
   -- x is the entry's input, at the index of its head's row; after is the row that the step leaves, y the frame that it gives
-  module _ {e : Entry} (is : e ≡ entryAt ws i) {x : Input} (made : x ≡ inputOf e (frameOf s e)) {at : ℕ} (seated : at ≡ e .head % 16) {after : List ℕ} {y : Sent}
+  module _ {e : Entry} (is : e ≡ entryAt ws i) {x : Input} (made : x ≡ inputOf e (frameOf s e)) {at : ℕ} (index-is : at ≡ e .head % 16) {after : List ℕ} {y : Sent}
       (acts : InputSized x → Acts (λ r. effect (withLast r (reading (x .reading))) (actionOf x)) (getD heads at []) after y) where
     input-is : x ≡ inputOf (entryAt ws i) (frameOf s (entryAt ws i))
     input-is = made ∙ ap (λ (e : Entry). inputOf e (frameOf s e)) is
 
     at-is : at ≡ entryAt ws i .head
-    at-is = seated ∙ ap (λ (e : Entry). e .head % 16) is ∙ (let b = head-below in omega arith)
+    at-is = index-is ∙ ap (λ (e : Entry). e .head % 16) is ∙ (let b = head-below in omega arith)
 
     does : effect (withLast (recordOf (settingAt ws) s (entryAt ws i .head)) (reading (x .reading))) (actionOf x) ≡ answerAt ws i s
     unfolding inputOf

@@ -104,7 +104,7 @@ sent-in adjusts r = refl
 -- an entry after the first i: at the index of a head stands that head's row
 module _ {ws : List ℕ} {i : ℕ} {s : History} {heads : List (List ℕ)} (now : Stands ws i s heads) {e : Entry} (is : e ≡ entryAt ws i) where
   row-of : (q at : ℕ) → q < 16 → at ≡ q % 16 → getD heads at [] ≡ rowOf (recordOf (settingAt ws) s q)
-  row-of q at below seated = let same : at ≡ q = omega arith in ap (λ (j : ℕ). getD heads j []) same ∙ row-at now q below
+  row-of q at below index-is = let same : at ≡ q = omega arith in ap (λ (j : ℕ). getD heads j []) same ∙ row-at now q below
 
   head-row : (at : ℕ) → at ≡ e .head % 16 → getD heads at [] ≡ rowOf (recordOf (settingAt ws) s (e .head))
   head-row at = row-of (e .head) at (subst (λ (e : Entry). e .head < 16) (sym is) (entry-sized ws i .0))

@@ -1,14 +1,14 @@
 // One entry of a sheet: the verdict on it, and what an accepted one does to its head's row.
 use head_open::closed_by;
 use head_open::has_mark;
-use head_step::take;
+use head_step::effect;
 use protocol::Cause;
 use protocol::Entry;
 use protocol::Input;
 use protocol::Sent;
 use protocol::Verdict;
-use sheet_state::place_for;
-use sheet_state::seat;
+use sheet_state::frame_index;
+use sheet_state::head_index;
 ghost use mathlib.Core.Path.{_≡_};
 ghost use mathlib.Core.List.{List, _∷_};
 ghost use Prim.Native.Nat.{ℕ, _-_};
@@ -25,12 +25,12 @@ fn is_open(e: Entry, heads: &[[u32; 80]; 16]) -> bool
         → b ≡ isOpen (settingAt ws) s e) ⌝ }
 {
     let a = e.action;
-    let p = seat(e.sender);
+    let p = head_index(e.sender);
     match a {
         2 => has_mark(heads[p][1], 1),
         5 => ((e.serial as u32) < heads[p][3]) & (e.sender != e.head),
         8 => ((e.serial as u32) < heads[p][5]) & (e.sender != e.head),
-        _ => !closed_by(a as u32, heads[seat(e.head)][1]),
+        _ => !closed_by(a as u32, heads[head_index(e.head)][1]),
     }
 }
 
@@ -45,7 +45,7 @@ pub fn entry_verdict(e: Entry, fits: bool, time: u32, heads: &[[u32; 80]; 16]) -
     if e.time.0 < time {
         return Verdict::Refused(Cause::TimeFell);
     }
-    if e.reading.0 < heads[seat(e.head)][0] {
+    if e.reading.0 < heads[head_index(e.head)][0] {
         return Verdict::Refused(Cause::ReadingFell);
     }
     if is_open(e, heads) {
@@ -82,7 +82,7 @@ fn input_of(e: Entry, choices: &[u8; 512], carried: &[u32; 512]) -> Input
         → x ≡ inputOf e (frameOf s e)) ⌝ }
 {
     let a = e.action;
-    let j = place_for(a, e.sender, e.serial);
+    let j = frame_index(a, e.sender, e.serial);
     match a {
         5 => input_with(e, choices[j], vote_reading(carried[j]), carried[j] == 0),
         8 => input_with(e, choices[j], carried[j], false),
@@ -96,7 +96,7 @@ fn keep_frame(h: u8, x: Sent, choices: &mut [u8; 512], carried: &mut [u32; 512])
         → h ≡ entryAt ws i .head → x ≡ sentOf (answerAt ws i s .frame) → Carries (eventAt ws i s ∷ s) (now (choices .exit)) (now (carried .exit))) ⌝ }
 {
     if 5 <= x.kind {
-        let j = place_for((x.kind % 256) as u8, h, (x.serial % 256) as u8);
+        let j = frame_index((x.kind % 256) as u8, h, (x.serial % 256) as u8);
         choices[j] = (x.choice % 256) as u8;
         carried[j] = x.carried;
     }
@@ -113,7 +113,7 @@ pub fn take_entry(
         → (now (heads .exit) ≡ headRows (settingAt ws) (eventAt ws i s ∷ s)) × Carries (eventAt ws i s ∷ s) (now (choices .exit)) (now (carried .exit))) ⌝ }
 {
     let i = input_of(e, choices, carried);
-    let h = seat(e.head);
-    let x = take(&mut heads[h], i);
+    let h = head_index(e.head);
+    let x = effect(&mut heads[h], i);
     keep_frame(e.head, x, choices, carried);
 }

@@ -35,7 +35,7 @@ fn word_6(o: u32, q: u32, c: u32, a: u32) -> u32
 }
 
 // "kind 7 with the adjustment; kind 8 with the candidate's start reading"
-fn words_of(q: u8, row: &[u32; 80]) -> HeadWords
+fn head_words(q: u8, row: &[u32; 80]) -> HeadWords
     requires { ⌜ q < 16 ⌝ }
     ensures { λ w. ⌜ AreWords q (now (row .entry)) w ⌝ }
 {
@@ -55,7 +55,7 @@ pub fn write_words(out: &mut [u32], n: u8, heads: &[[u32; 80]; 16])
     let mut q: u8 = 0;
     while q < n {
         let i = q as usize;
-        let w = words_of(q, &heads[i]);
+        let w = head_words(q, &heads[i]);
         let at = WORDS_PER_HEAD * i;
         out[at] = w.outcome;
         out[at + 1] = w.adjustment;

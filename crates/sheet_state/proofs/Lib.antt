@@ -1,3 +1,3 @@
 -- Laws of indices, and of what a run keeps.
-pub mod Places
+pub mod Indices
 pub mod Standing

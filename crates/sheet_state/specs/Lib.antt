@@ -1,3 +1,3 @@
 -- Where what concerns one vote or adjust is kept.
-pub mod Places
+pub mod Indices
 pub mod Arrays

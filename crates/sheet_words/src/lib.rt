@@ -1,7 +1,7 @@
 // A sheet's words: causes 1 to 4 of the whole sheet, its setting and its entries, and cause 6 of an entry.
 use data_words::entry_of;
 use data_words::first_word_fits;
-use data_words::kind;
+use data_words::kind_of;
 use data_words::second_word_fits;
 use data_words::setting_of;
 use data_words::zero_where_unused;
@@ -16,7 +16,7 @@ ghost use Rattle.protocol.specs.Causes.{sheetVerdict};
 ghost use Rattle.protocol.specs.Words.{settingAt, entryCount, entryAt, entryFits, entryFitsAt};
 
 // An entry, and whether its words fit (else cause 6).
-pub struct Read {
+pub struct EntryRead {
     pub entry: Entry,
     pub fits: bool,
 }
@@ -50,9 +50,9 @@ pub fn entry_fits(n: u8, t: u32, a: u32, w: u32) -> bool
     ensures { λ r. ⌜ r ≡ entryFits n t a w ⌝ }
 {
     let e = entry_of(t, a, w);
-    kind(t) == 3
-        && (kind(a) == 4
-            && (kind(w) == 5
+    kind_of(t) == 3
+        && (kind_of(a) == 4
+            && (kind_of(w) == 5
                 && (w % 4096 == 0
                     && (e.action <= 9
                         && (e.head < n
@@ -77,7 +77,7 @@ pub fn entry_count(sheet: &[u32]) -> usize
 }
 
 // Entry i, for a bench of n heads.
-pub fn read_entry(sheet: &[u32], n: u8, i: usize) -> Read
+pub fn read_entry(sheet: &[u32], n: u8, i: usize) -> EntryRead
     requires { ⌜ (2 + 3 * i + 2 < length (now sheet)) × (length (now sheet) ≤ 12290) × (n ≡ settingAt (now sheet) .n) ⌝ }
     ensures { λ r. ⌜ (r .entry ≡ entryAt (now (sheet .entry)) i) × (r .fits ≡ entryFitsAt (now (sheet .entry)) i) ⌝ }
 {
@@ -87,5 +87,5 @@ pub fn read_entry(sheet: &[u32], n: u8, i: usize) -> Read
     let w = sheet[at + 2];
     let entry = entry_of(t, a, w);
     let fits = entry_fits(n, t, a, w);
-    Read { entry, fits }
+    EntryRead { entry, fits }
 }

@@ -1,9 +1,9 @@
 // Prints, after every entry of a run sheet: its index, real time, head and action, then the head's candidate, adjuster
 // and adjustment (- for none) and outcome; or `refused`, the cause's number and the place, at the entry that is refused.
 // The sheet comes on standard input; it has at most 49,160 bytes, so one that fills the buffer is too long.
+use data_bytes::big_endian;
 use data_bytes::bytes_verdict;
-use data_bytes::words_of;
-use data_causes::cause_number;
+use data_values::cause_number;
 use libc::STDIN_FILENO;
 use libc::STDOUT_FILENO;
 use protocol::Cause;
@@ -106,7 +106,7 @@ fn trace_bytes(bytes: &[u8]) {
     match v {
         Verdict::Refused(c) => print_refused(c, 0),
         Verdict::Accepted => {
-            let words = words_of(bytes);
+            let words = big_endian(bytes);
             print_sheet(&words[..bytes.len() / 4]);
         }
     }

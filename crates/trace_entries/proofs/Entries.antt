@@ -117,8 +117,8 @@ module _ {ws : List ℕ} {i : ℕ} {heads : List (List ℕ)} {choices carried : 
     pub accepted-next : (e : Entry) (h : ℕ) (l : Line) → e ≡ entryAt ws i → h ≡ e .head % 16 → IsLine e (getD rows h []) l
         → (After l ≡ traced ws i) × GoesOn ws i (After l) rows named read
     unfolding lineOf
-    accepted-next e h l is seated line =
-        let shown = line-next l (subst (λ (d : Entry). IsLine d (getD rows (d .head % 16) []) l) is (subst (λ (p : ℕ). IsLine e (getD rows p []) l) seated line)) in (
+    accepted-next e h l is index-is line =
+        let shown = line-next l (subst (λ (d : Entry). IsLine d (getD rows (d .head % 16) []) l) is (subst (λ (p : ℕ). IsLine e (getD rows p []) l) index-is line)) in (
           rw (traced-run (suc i) (omega arith), stands-next .is-run, lt-ltb i (entryCount ws) (omega arith)) (ap After shown),
           λ k same. subst (λ (t : ℕ). Follows ws (i + 1) rows named read t)
               (sym (ap (λ (m : Line). m .time .0) (let z : l ≡ k = cc in sym z ∙ shown))) follows-next,

@@ -10,7 +10,7 @@ use protocol::RealTime;
 use protocol::Verdict;
 use sheet_entry::entry_verdict;
 use sheet_entry::take_entry;
-use sheet_state::seat;
+use sheet_state::head_index;
 use sheet_words::entry_count;
 use sheet_words::read_entry;
 use sheet_words::setting_at;
@@ -101,7 +101,7 @@ pub fn trace_next(
             Verdict::Refused(c) => Traced::RefusedAt(c, 2 + 3 * i),
             Verdict::Accepted => {
                 take_entry(e, heads, choices, carried);
-                let h = seat(e.head);
+                let h = head_index(e.head);
                 Traced::After(line_of(e, &heads[h]))
             }
         }

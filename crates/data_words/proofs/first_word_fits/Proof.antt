@@ -7,8 +7,8 @@ use Rattle.data_words.proofs.first_word_fits.Tie as tie
 setting-of-requires : tie.Need-setting-of-requires
 setting-of-requires c κs = search needs
 
-kind-requires : tie.Need-kind-requires
-kind-requires c κs = search needs
+kind-of-requires : tie.Need-kind-of-requires
+kind-of-requires c κs = search needs
 
 heads-fit-requires : tie.Need-heads-fit-requires
 heads-fit-requires c κs = search needs
@@ -18,9 +18,9 @@ none-from-requires c κs = search needs
 
 returns : tie.Need-returns
 unfolding firstWordFits settingOf
-returns c = simp (c .none-from .ensures, c .before .heads-fit .ensures, c .before .before .kind .ensures, c .before .before .before .setting-of .ensures)
+returns c = simp (c .none-from .ensures, c .before .heads-fit .ensures, c .before .before .kind-of .ensures, c .before .before .before .setting-of .ensures)
 
 pub first-word-fits-spec : {M : Type 1} → statement M
 first-word-fits-spec =
     tie.close
-    (tie.spec setting-of-requires kind-requires heads-fit-requires none-from-requires returns)
+    (tie.spec setting-of-requires kind-of-requires heads-fit-requires none-from-requires returns)

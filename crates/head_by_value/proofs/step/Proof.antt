@@ -14,8 +14,8 @@ row-verdict-requires c κs = search needs
 enum-told : tie.Need-enum-told
 enum-told c = search needs
 
-take-requires : tie.Need-take-requires
-take-requires c κs = search needs
+effect-requires : tie.Need-effect-requires
+effect-requires c κs = search needs
 
 record-in-requires : tie.Need-record-in-requires
 record-in-requires c κs = search needs
@@ -32,7 +32,7 @@ returns c =
     let args = c .before .before .before .before .before .before .before .before .before .before .args in
     let long : length (of .result) ≡ 80 = search needs in
     taken-step (args .r) (args .i) (of .result) (of .ensures) long _ (c .before .before .before .before .before .before .before .row-verdict .ensures)
-    (c .before .before .before .before .before .enum-told .given .1) _ _ (c .before .before .before .take .ensures) _ (c .before .record-in .ensures) _ (c .frame-in .ensures)
+    (c .before .before .before .before .before .enum-told .given .1) _ _ (c .before .before .before .effect .ensures) _ (c .before .record-in .ensures) _ (c .frame-in .ensures)
 
 returns-2 : tie.Need-returns-2
 returns-2 c =
@@ -48,7 +48,7 @@ step-spec =
     row-of-requires
     row-verdict-requires
     enum-told
-    take-requires
+    effect-requires
     record-in-requires
     frame-in-requires
     enum-known-v

@@ -9,14 +9,14 @@ element-copy-out-n c = search needs
 row-fits-requires : tie.Need-row-fits-requires
 row-fits-requires c κs = search needs
 
-element-copy-out-bench-fits : tie.Need-element-copy-out-bench-fits
-element-copy-out-bench-fits c = search needs
+element-copy-out-own-fits : tie.Need-element-copy-out-own-fits
+element-copy-out-own-fits c = search needs
 
-element-copy-out-bench-fits-2 : tie.Need-element-copy-out-bench-fits-2
-element-copy-out-bench-fits-2 c = search needs
+element-copy-out-own-fits-2 : tie.Need-element-copy-out-own-fits-2
+element-copy-out-own-fits-2 c = search needs
 
-bench-fits-requires : tie.Need-bench-fits-requires
-bench-fits-requires c κs = search needs
+own-fits-requires : tie.Need-own-fits-requires
+own-fits-requires c κs = search needs
 
 element-copy-out-times-fit : tie.Need-element-copy-out-times-fit
 element-copy-out-times-fit c = search needs
@@ -58,22 +58,22 @@ senders-in-range-requires : tie.Need-senders-in-range-requires
 senders-in-range-requires c κs = search needs
 
 returns : tie.Need-returns
-returns c = simp (← in-parts, c .senders-in-range .ensures, c .before .if6 .taken, ← c .before .before .marks-fit .ensures, c .before .before .before .before .if5 .taken, ← c .before .before .before .before .before .phase-fits2 .ensures, c .before .before .before .before .before .before .before .before .if4 .taken, ← c .before .before .before .before .before .before .before .before .before .phase-fits .ensures, c .before .before .before .before .before .before .before .before .before .before .before .before .if3 .taken, ← c .before .before .before .before .before .before .before .before .before .before .before .before .before .times-fit .ensures, c .before .before .before .before .before .before .before .before .before .before .before .before .before .before .before .before .before .if2 .taken, ← c .before .before .before .before .before .before .before .before .before .before .before .before .before .before .before .before .before .before .bench-fits .ensures, c .before .before .before .before .before .before .before .before .before .before .before .before .before .before .before .before .before .before .before .before .before .if1 .taken, ← c .before .before .before .before .before .before .before .before .before .before .before .before .before .before .before .before .before .before .before .before .before .before .row-fits .ensures)
+returns c = simp (← in-parts, c .senders-in-range .ensures, c .before .if6 .taken, ← c .before .before .marks-fit .ensures, c .before .before .before .before .if5 .taken, ← c .before .before .before .before .before .phase-fits2 .ensures, c .before .before .before .before .before .before .before .before .if4 .taken, ← c .before .before .before .before .before .before .before .before .before .phase-fits .ensures, c .before .before .before .before .before .before .before .before .before .before .before .before .if3 .taken, ← c .before .before .before .before .before .before .before .before .before .before .before .before .before .times-fit .ensures, c .before .before .before .before .before .before .before .before .before .before .before .before .before .before .before .before .before .if2 .taken, ← c .before .before .before .before .before .before .before .before .before .before .before .before .before .before .before .before .before .before .own-fits .ensures, c .before .before .before .before .before .before .before .before .before .before .before .before .before .before .before .before .before .before .before .before .before .if1 .taken, ← c .before .before .before .before .before .before .before .before .before .before .before .before .before .before .before .before .before .before .before .before .before .before .row-fits .ensures)
 
 returns-2 : tie.Need-returns-2
-returns-2 c = simp (← in-parts, c .if6 .left, ← c .before .marks-fit .ensures, c .before .before .before .if5 .taken, ← c .before .before .before .before .phase-fits2 .ensures, c .before .before .before .before .before .before .before .if4 .taken, ← c .before .before .before .before .before .before .before .before .phase-fits .ensures, c .before .before .before .before .before .before .before .before .before .before .before .if3 .taken, ← c .before .before .before .before .before .before .before .before .before .before .before .before .times-fit .ensures, c .before .before .before .before .before .before .before .before .before .before .before .before .before .before .before .before .if2 .taken, ← c .before .before .before .before .before .before .before .before .before .before .before .before .before .before .before .before .before .bench-fits .ensures, c .before .before .before .before .before .before .before .before .before .before .before .before .before .before .before .before .before .before .before .before .if1 .taken, ← c .before .before .before .before .before .before .before .before .before .before .before .before .before .before .before .before .before .before .before .before .before .row-fits .ensures)
+returns-2 c = simp (← in-parts, c .if6 .left, ← c .before .marks-fit .ensures, c .before .before .before .if5 .taken, ← c .before .before .before .before .phase-fits2 .ensures, c .before .before .before .before .before .before .before .if4 .taken, ← c .before .before .before .before .before .before .before .before .phase-fits .ensures, c .before .before .before .before .before .before .before .before .before .before .before .if3 .taken, ← c .before .before .before .before .before .before .before .before .before .before .before .before .times-fit .ensures, c .before .before .before .before .before .before .before .before .before .before .before .before .before .before .before .before .if2 .taken, ← c .before .before .before .before .before .before .before .before .before .before .before .before .before .before .before .before .before .own-fits .ensures, c .before .before .before .before .before .before .before .before .before .before .before .before .before .before .before .before .before .before .before .before .if1 .taken, ← c .before .before .before .before .before .before .before .before .before .before .before .before .before .before .before .before .before .before .before .before .before .row-fits .ensures)
 
 returns-3 : tie.Need-returns-3
-returns-3 c = simp (← in-parts, c .if5 .left, ← c .before .phase-fits2 .ensures, c .before .before .before .before .if4 .taken, ← c .before .before .before .before .before .phase-fits .ensures, c .before .before .before .before .before .before .before .before .if3 .taken, ← c .before .before .before .before .before .before .before .before .before .times-fit .ensures, c .before .before .before .before .before .before .before .before .before .before .before .before .before .if2 .taken, ← c .before .before .before .before .before .before .before .before .before .before .before .before .before .before .bench-fits .ensures, c .before .before .before .before .before .before .before .before .before .before .before .before .before .before .before .before .before .if1 .taken, ← c .before .before .before .before .before .before .before .before .before .before .before .before .before .before .before .before .before .before .row-fits .ensures)
+returns-3 c = simp (← in-parts, c .if5 .left, ← c .before .phase-fits2 .ensures, c .before .before .before .before .if4 .taken, ← c .before .before .before .before .before .phase-fits .ensures, c .before .before .before .before .before .before .before .before .if3 .taken, ← c .before .before .before .before .before .before .before .before .before .times-fit .ensures, c .before .before .before .before .before .before .before .before .before .before .before .before .before .if2 .taken, ← c .before .before .before .before .before .before .before .before .before .before .before .before .before .before .own-fits .ensures, c .before .before .before .before .before .before .before .before .before .before .before .before .before .before .before .before .before .if1 .taken, ← c .before .before .before .before .before .before .before .before .before .before .before .before .before .before .before .before .before .before .row-fits .ensures)
 
 returns-4 : tie.Need-returns-4
-returns-4 c = simp (← in-parts, c .if4 .left, ← c .before .phase-fits .ensures, c .before .before .before .before .if3 .taken, ← c .before .before .before .before .before .times-fit .ensures, c .before .before .before .before .before .before .before .before .before .if2 .taken, ← c .before .before .before .before .before .before .before .before .before .before .bench-fits .ensures, c .before .before .before .before .before .before .before .before .before .before .before .before .before .if1 .taken, ← c .before .before .before .before .before .before .before .before .before .before .before .before .before .before .row-fits .ensures)
+returns-4 c = simp (← in-parts, c .if4 .left, ← c .before .phase-fits .ensures, c .before .before .before .before .if3 .taken, ← c .before .before .before .before .before .times-fit .ensures, c .before .before .before .before .before .before .before .before .before .if2 .taken, ← c .before .before .before .before .before .before .before .before .before .before .own-fits .ensures, c .before .before .before .before .before .before .before .before .before .before .before .before .before .if1 .taken, ← c .before .before .before .before .before .before .before .before .before .before .before .before .before .before .row-fits .ensures)
 
 returns-5 : tie.Need-returns-5
-returns-5 c = simp (← in-parts, c .if3 .left, ← c .before .times-fit .ensures, c .before .before .before .before .before .if2 .taken, ← c .before .before .before .before .before .before .bench-fits .ensures, c .before .before .before .before .before .before .before .before .before .if1 .taken, ← c .before .before .before .before .before .before .before .before .before .before .row-fits .ensures)
+returns-5 c = simp (← in-parts, c .if3 .left, ← c .before .times-fit .ensures, c .before .before .before .before .before .if2 .taken, ← c .before .before .before .before .before .before .own-fits .ensures, c .before .before .before .before .before .before .before .before .before .if1 .taken, ← c .before .before .before .before .before .before .before .before .before .before .row-fits .ensures)
 
 returns-6 : tie.Need-returns-6
-returns-6 c = simp (← in-parts, c .if2 .left, ← c .before .bench-fits .ensures, c .before .before .before .before .if1 .taken, ← c .before .before .before .before .before .row-fits .ensures)
+returns-6 c = simp (← in-parts, c .if2 .left, ← c .before .own-fits .ensures, c .before .before .before .before .if1 .taken, ← c .before .before .before .before .before .row-fits .ensures)
 
 returns-7 : tie.Need-returns-7
 returns-7 c = simp (← in-parts, c .if1 .left, ← c .before .row-fits .ensures)
@@ -84,9 +84,9 @@ row-in-range-spec =
     (tie.spec
     element-copy-out-n
     row-fits-requires
-    element-copy-out-bench-fits
-    element-copy-out-bench-fits-2
-    bench-fits-requires
+    element-copy-out-own-fits
+    element-copy-out-own-fits-2
+    own-fits-requires
     element-copy-out-times-fit
     element-copy-out-times-fit-2
     element-copy-out-times-fit-3

@@ -1,5 +1,5 @@
 use Rattle.protocol.specs.Record.{votes, adjusts}
-use Rattle.judge_entry.proofs.Watches.{start-delivered, start-confirmed, frame-delivered, phase-closed, nothing-asked}
+use Rattle.judge_entry.proofs.Actions.{start-delivered, start-confirmed, frame-delivered, phase-closed, nothing-asked}
 use borrow.Author.Needs.{needs}
 use Rattle.judge_entry.proofs.breaks.Statement.{statement}
 use Rattle.judge_entry.proofs.breaks.Tie as tie

@@ -13,8 +13,8 @@ use borrow.Author.Needs.{needs}
 use Rattle.judge_entry.proofs.keeps_steady.Statement.{statement}
 use Rattle.judge_entry.proofs.keeps_steady.Tie as tie
 
-seat-requires : tie.Need-seat-requires
-seat-requires c κs = search needs
+head-index-requires : tie.Need-head-index-requires
+head-index-requires c κs = search needs
 
 mul-ahead : tie.Need-mul-ahead
 mul-ahead c = search needs
@@ -28,20 +28,20 @@ mul-behind c = search needs
 element-copy-out-behind : tie.Need-element-copy-out-behind
 element-copy-out-behind c = search needs
 
-lead-requires : tie.Need-lead-requires
-lead-requires c κs = search needs
+gain-requires : tie.Need-gain-requires
+gain-requires c κs = search needs
 
 lesser-requires : tie.Need-lesser-requires
 lesser-requires c κs = search needs
 
-mul-lags : tie.Need-mul-lags
-mul-lags c = search needs
+mul-losses : tie.Need-mul-losses
+mul-losses c = search needs
 
-element-set-from-lags : tie.Need-element-set-from-lags
-element-set-from-lags c = search needs
+element-set-from-losses : tie.Need-element-set-from-losses
+element-set-from-losses c = search needs
 
-lag-requires : tie.Need-lag-requires
-lag-requires c κs = search needs
+loss-requires : tie.Need-loss-requires
+loss-requires c κs = search needs
 
 lesser-requires-2 : tie.Need-lesser-requires-2
 lesser-requires-2 c κs = search needs
@@ -49,8 +49,8 @@ lesser-requires-2 c κs = search needs
 mul-t8 : tie.Need-mul-t8
 mul-t8 c = search needs
 
-element-set-from-lags-2 : tie.Need-element-set-from-lags-2
-element-set-from-lags-2 c = search needs
+element-set-from-losses-2 : tie.Need-element-set-from-losses-2
+element-set-from-losses-2 c = search needs
 
 is-correct-requires : tie.Need-is-correct-requires
 is-correct-requires c κs = search needs
@@ -66,16 +66,16 @@ returns : tie.Need-returns
 returns c =
     λ ws i s heads stands gs es acc kept.
     let A = c .before .before .before .before .before .before .before .before .before .args in
-    let at = c .before .before .before .before .before .before .before .before .seat in
-    let ahead = number (getD (now (A .leads)) (at .result) (pos 0)) (c .before .before .before .before .before .before .before .ahead .given) in
-    let behind = number (getD (now (A .lags)) (at .result) (pos 0)) (c .before .before .before .before .before .before .behind .given) in
-    let lead = c .before .before .before .before .before .lead in
-    let lag = c .before .before .before .lag in
+    let at = c .before .before .before .before .before .before .before .before .head-index in
+    let ahead = number (getD (now (A .gains)) (at .result) (pos 0)) (c .before .before .before .before .before .before .before .ahead .given) in
+    let behind = number (getD (now (A .losses)) (at .result) (pos 0)) (c .before .before .before .before .before .before .behind .given) in
+    let gain = c .before .before .before .before .before .gain in
+    let loss = c .before .before .before .loss in
     let less = c .before .before .before .before .lesser in
     let less2 = c .before .before .lesser2 in (
       differs-next stands acc gs es kept (at .ensures)
-          (number (less .result) (less .ok) ∙ less .ensures ∙ ap₂ lesserOf ahead (number (lead .result) (lead .ok) ∙ lead .ensures))
-          (number (less2 .result) (less2 .ok) ∙ less2 .ensures ∙ ap₂ lesserOf behind (number (lag .result) (lag .ok) ∙ lag .ensures)),
+          (number (less .result) (less .ok) ∙ less .ensures ∙ ap₂ lesserOf ahead (number (gain .result) (gain .ok) ∙ gain .ensures))
+          (number (less2 .result) (less2 .ok) ∙ less2 .ensures ∙ ap₂ lesserOf behind (number (loss .result) (loss .ok) ∙ loss .ensures)),
       steady-next stands acc gs es kept (at .ensures) (c .before .is-correct .ensures) ahead behind (c .stays-steady .ensures),
     )
 
@@ -83,19 +83,19 @@ pub keeps-steady-spec : {M : Type 1} → statement M
 keeps-steady-spec =
     tie.close
     (tie.spec
-    seat-requires
+    head-index-requires
     mul-ahead
     element-copy-out-ahead
     mul-behind
     element-copy-out-behind
-    lead-requires
+    gain-requires
     lesser-requires
-    mul-lags
-    element-set-from-lags
-    lag-requires
+    mul-losses
+    element-set-from-losses
+    loss-requires
     lesser-requires-2
     mul-t8
-    element-set-from-lags-2
+    element-set-from-losses-2
     is-correct-requires
     stays-steady-requires
     returns)

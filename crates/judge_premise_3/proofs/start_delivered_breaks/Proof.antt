@@ -6,8 +6,8 @@ use borrow.Author.Needs.{needs}
 use Rattle.judge_premise_3.proofs.start_delivered_breaks.Statement.{statement}
 use Rattle.judge_premise_3.proofs.start_delivered_breaks.Tie as tie
 
-seat-requires : tie.Need-seat-requires
-seat-requires c κs = search needs
+head-index-requires : tie.Need-head-index-requires
+head-index-requires c κs = search needs
 
 wrapping-add-u32-requires : tie.Need-wrapping-add-u32-requires
 wrapping-add-u32-requires c κs = search needs
@@ -15,8 +15,8 @@ wrapping-add-u32-requires c κs = search needs
 mul-times : tie.Need-mul-times
 mul-times c = search needs
 
-seat-requires-2 : tie.Need-seat-requires-2
-seat-requires-2 c κs = search needs
+head-index-requires-2 : tie.Need-head-index-requires-2
+head-index-requires-2 c κs = search needs
 
 add-times : tie.Need-add-times
 add-times c = search needs
@@ -46,9 +46,9 @@ returns : tie.Need-returns
 returns c =
     λ ws i s now gs es acc two are.
     let stored = c .before .before .before .before .before in
-    let at-sender = stored .before .before .seat .ensures in
+    let at-sender = stored .before .before .head-index .ensures in
     let confirmed = confirmed-mark now es at-sender (c .before .before .before .has-mark .ensures) in (
-      times-after now es acc two are at-sender (stored .seat2 .ensures) (stored .before .wrapping-add-u32 .ensures),
+      times-after now es acc two are at-sender (stored .head-index2 .ensures) (stored .before .wrapping-add-u32 .ensures),
       rw (sym (c .before .is-correct .ensures) ∙ c .if2 .taken, sym confirmed ∙ c .before .before .if1 .taken) refl,
     )
 
@@ -57,9 +57,9 @@ returns-2 c =
     λ ws i s now gs es acc two are.
     let stored = c .before .before .before in
     let A = c .before .before .before .before .before .before .args in
-    let at-sender = stored .before .before .seat .ensures in
+    let at-sender = stored .before .before .head-index .ensures in
     let confirmed = confirmed-mark now es at-sender (c .before .has-mark .ensures) in (
-      times-after now es acc two are at-sender (stored .seat2 .ensures) (stored .before .wrapping-add-u32 .ensures),
+      times-after now es acc two are at-sender (stored .head-index2 .ensures) (stored .before .wrapping-add-u32 .ensures),
       ⊎-elim (λ w. rw (sym (w .1 .ensures) ∙ w .2 .left) refl) (λ w. unconfirmed (isCorrect (A .g) (A .e .head)) (sym confirmed ∙ w .left)) (c .if1 .came),
     )
 
@@ -67,10 +67,10 @@ pub start-delivered-breaks-spec : {M : Type 1} → statement M
 start-delivered-breaks-spec =
     tie.close
     (tie.spec
-    seat-requires
+    head-index-requires
     wrapping-add-u32-requires
     mul-times
-    seat-requires-2
+    head-index-requires-2
     add-times
     mul-times-2
     element-write-times

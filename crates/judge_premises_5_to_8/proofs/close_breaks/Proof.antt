@@ -2,7 +2,7 @@ use denote.Ref.{now}
 use mathlib.Core.Path.{sym, _∙_}
 use Rattle.protocol.proofs.Tests.{not-true, not-false}
 use Rattle.sheet_state.specs.Arrays.{eventAt}
-use Rattle.judge_premises_5_to_8.proofs.Found.{is-over, not-over, is-late, not-late, close-of-faulty, close-after-late, close-again, first-close-heard, first-close-unheard}
+use Rattle.judge_premises_5_to_8.proofs.Found.{is-over, not-over, is-late, not-late, close-of-faulty, close-after-late, close-again, first-close-reached, first-close-unreached}
 use native.Mathlib.Omega.{arith}
 use borrow.Author.Needs.{needs}
 use Rattle.judge_premises_5_to_8.proofs.close_breaks.Statement.{statement}
@@ -79,7 +79,7 @@ returns-4 c =
     let below = c .before .before .before .before .before .before .pre in (
       λ ws i s S g-is is act sets times F.
           let unclosed = not-over (A .g) s (A .phase) below (now (A .found)) F (c .before .before .if2 .left) in
-          first-close-unheard (A .g) s (A .phase) below (now (A .found)) F (eventAt ws i s) (A .e) is act (sym (c .before .before .before .before .before .is-correct .ensures) ∙ not-false {b = c .before .before .before .before .before .is-correct .result} (c .before .before .before .before .if1 .left)) unclosed
+          first-close-unreached (A .g) s (A .phase) below (now (A .found)) F (eventAt ws i s) (A .e) is act (sym (c .before .before .before .before .before .is-correct .ensures) ∙ not-false {b = c .before .before .before .before .before .is-correct .result} (c .before .before .before .before .if1 .left)) unclosed
           (sym (c .before .phase-reached .ensures ws i s S g-is sets times unclosed) ∙ not-true {b = c .before .phase-reached .result} (c .if4 .taken)),
       omega arith,
     )
@@ -90,7 +90,7 @@ returns-5 c =
     let below = c .before .before .before .before .before .before .pre in (
       λ ws i s S g-is is act sets times F.
           let unclosed = not-over (A .g) s (A .phase) below (now (A .found)) F (c .before .before .if2 .left) in
-          first-close-heard (A .g) s (A .phase) below (now (A .found)) F (eventAt ws i s) (A .e) is act (sym (c .before .before .before .before .before .is-correct .ensures) ∙ not-false {b = c .before .before .before .before .before .is-correct .result} (c .before .before .before .before .if1 .left)) unclosed
+          first-close-reached (A .g) s (A .phase) below (now (A .found)) F (eventAt ws i s) (A .e) is act (sym (c .before .before .before .before .before .is-correct .ensures) ∙ not-false {b = c .before .before .before .before .before .is-correct .result} (c .before .before .before .before .if1 .left)) unclosed
           (sym (c .before .phase-reached .ensures ws i s S g-is sets times unclosed) ∙ not-false {b = c .before .phase-reached .result} (c .if4 .left)),
       omega arith,
     )

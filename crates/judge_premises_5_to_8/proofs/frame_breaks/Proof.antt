@@ -3,7 +3,7 @@ use mathlib.Core.Path.{sym, _∙_}
 use mathlib.Core.Logic.{⊎-elim}
 use borrow.Author.Tests.{eqb-true, eqb-false}
 use Rattle.sheet_state.specs.Arrays.{eventAt}
-use Rattle.judge_premises_5_to_8.specs.Closes.{kindOf}
+use Rattle.judge_premises_5_to_8.specs.Closes.{phaseKind}
 use Rattle.judge_premises_5_to_8.proofs.Receivers.{frame-received}
 use Rattle.judge_premises_5_to_8.proofs.Found.{is-over, not-over, frame-late, frame-of-faulty, frame-in-time}
 use native.Mathlib.Omega.{arith}
@@ -11,8 +11,8 @@ use borrow.Author.Needs.{needs}
 use Rattle.judge_premises_5_to_8.proofs.frame_breaks.Statement.{statement}
 use Rattle.judge_premises_5_to_8.proofs.frame_breaks.Tie as tie
 
-place-for-requires : tie.Need-place-for-requires
-place-for-requires c κs = search needs
+frame-index-requires : tie.Need-frame-index-requires
+frame-index-requires c κs = search needs
 
 mul-with-head : tie.Need-mul-with-head
 mul-with-head c = search needs
@@ -46,7 +46,7 @@ returns c =
     let A = c .before .before .before .before .before .before .before .args in
     let below = c .before .before .before .before .before .before .before .pre in (
       λ ws i s is act sets F. (
-        frame-received ws i s (A .e) (kindOf (A .phase)) (now (A .received)) _ _ is act sets (c .before .before .before .before .before .before .place-for .ensures .0) (c .before .before .before .before .with-head .ensures),
+        frame-received ws i s (A .e) (phaseKind (A .phase)) (now (A .received)) _ _ is act sets (c .before .before .before .before .before .before .frame-index .ensures .0) (c .before .before .before .before .with-head .ensures),
         frame-late (A .g) s (A .phase) below (now (A .found)) F (eventAt ws i s) (A .e) is act (sym (c .before .before .before .is-correct .ensures) ∙ c .before .before .if1 .taken)
             (is-over (A .g) s (A .phase) below (now (A .found)) F (eqb-true _ _ (c .if2 .taken))),
       ),
@@ -58,7 +58,7 @@ returns-2 c =
     let A = c .before .before .before .before .before .args in
     let below = c .before .before .before .before .before .pre in (
       λ ws i s is act sets F. (
-        frame-received ws i s (A .e) (kindOf (A .phase)) (now (A .received)) _ _ is act sets (c .before .before .before .before .place-for .ensures .0) (c .before .before .with-head .ensures),
+        frame-received ws i s (A .e) (phaseKind (A .phase)) (now (A .received)) _ _ is act sets (c .before .before .before .before .frame-index .ensures .0) (c .before .before .with-head .ensures),
         ⊎-elim
             (λ w. frame-in-time (A .g) s (A .phase) below (now (A .found)) F (eventAt ws i s) (A .e) is act (sym (c .before .is-correct .ensures) ∙ w .0 .taken)
             (not-over (A .g) s (A .phase) below (now (A .found)) F (eqb-false _ _ (w .2 .left))))
@@ -72,7 +72,7 @@ pub frame-breaks-spec : {M : Type 1} → statement M
 frame-breaks-spec =
     tie.close
     (tie.spec
-    place-for-requires
+    frame-index-requires
     mul-with-head
     element-copy-out-with-head
     with-head-requires

@@ -26,8 +26,8 @@ loop-holds c = (omega arith, refl)
 cast-loop : tie.Need-cast-loop Inv-loop μ-loop
 cast-loop c = search needs
 
-place-for-requires : tie.Need-place-for-requires Inv-loop μ-loop
-place-for-requires c κs = search needs
+frame-index-requires : tie.Need-frame-index-requires Inv-loop μ-loop
+frame-index-requires c κs = search needs
 
 mul-with-head : tie.Need-mul-with-head Inv-loop μ-loop
 mul-with-head c = search needs
@@ -45,7 +45,7 @@ returns : tie.Need-returns Inv-loop μ-loop
 returns c =
     let A = c .before .before .before .before .before .before .before .before .args in
     let reached = c .before .has-all .ensures
-    ∙ ap (λ (m : ℕ). hasAll m (A .g .correct)) (c .before .before .with-head .ensures ∙ ap (λ (j : ℕ). withHead (getD (now (A .received)) j 0) (A .p)) (c .before .before .before .before .place-for .ensures .0)) in
+    ∙ ap (λ (m : ℕ). hasAll m (A .g .correct)) (c .before .before .with-head .ensures ∙ ap (λ (j : ℕ). withHead (getD (now (A .received)) j 0) (A .p)) (c .before .before .before .before .frame-index .ensures .0)) in
     sym (all-fails (min (A .count) 16) (c .before .before .before .before .before .before .before .loop .k) (frameReached (A .g) (now (A .received)) (A .a) (A .p)) (omega (arith, ltb-true (c .before .before .before .before .before .before .before .loop .k) 16 (c .before .before .before .before .before .if1 .taken), c .before .before .before .before .before .before .loop-test .taken))
     (sym reached ∙ not-true {b = c .before .has-all .result} (c .if2 .taken)))
 
@@ -59,7 +59,7 @@ loop-again : tie.Need-loop-again Inv-loop μ-loop
 loop-again c =
     let A = c .before .before .before .before .before .before .before .before .args in
     let reached = c .before .has-all .ensures
-    ∙ ap (λ (m : ℕ). hasAll m (A .g .correct)) (c .before .before .with-head .ensures ∙ ap (λ (j : ℕ). withHead (getD (now (A .received)) j 0) (A .p)) (c .before .before .before .before .place-for .ensures .0)) in (
+    ∙ ap (λ (m : ℕ). hasAll m (A .g .correct)) (c .before .before .with-head .ensures ∙ ap (λ (j : ℕ). withHead (getD (now (A .received)) j 0) (A .p)) (c .before .before .before .before .frame-index .ensures .0)) in (
       omega (arith, ltb-true (c .before .before .before .before .before .before .before .loop .k) 16 (c .before .before .before .before .before .if1 .taken), c .before .before .before .before .before .before .loop-test .taken),
       all-more (c .before .before .before .before .before .before .before .loop .k) (frameReached (A .g) (now (A .received)) (A .a) (A .p))
           (c .before .before .before .before .before .before .before .loop .inv .1) (sym reached ∙ not-false {b = c .before .has-all .result} (c .if2 .left)),
@@ -83,7 +83,7 @@ frames-reached-spec =
     μ-loop
     loop-holds
     cast-loop
-    place-for-requires
+    frame-index-requires
     mul-with-head
     element-copy-out-with-head
     with-head-requires

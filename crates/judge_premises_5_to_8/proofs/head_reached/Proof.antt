@@ -1,11 +1,11 @@
 use Rattle.judge_premise_3.proofs.Accepted.{few-heads}
-use Rattle.judge_premises_5_to_8.proofs.Heard.{p-low, takes-no-part, start-unheard, votes-heard, no-adjust-turn, adjusts-heard}
+use Rattle.judge_premises_5_to_8.proofs.Reached.{p-low, takes-no-part, start-unreached, votes-reached, no-adjust-turn, adjusts-reached}
 use borrow.Author.Needs.{needs}
 use Rattle.judge_premises_5_to_8.proofs.head_reached.Statement.{statement}
 use Rattle.judge_premises_5_to_8.proofs.head_reached.Tie as tie
 
-seat-requires : tie.Need-seat-requires
-seat-requires c κs = search needs
+head-index-requires : tie.Need-head-index-requires
+head-index-requires c κs = search needs
 
 mul-marks : tie.Need-mul-marks
 mul-marks c = search needs
@@ -32,7 +32,7 @@ returns : tie.Need-returns
 returns c =
     let A = c .before .before .before .before .before .before .args in
     λ ws j s S g-is sets times correct unclosed.
-    takes-no-part S g-is (A .p) correct _ (c .before .before .before .before .before .seat .ensures) (A .phase) sets (c .before .before .before .if1 .taken) unclosed (c .before .has-mark .ensures) (c .if2 .taken)
+    takes-no-part S g-is (A .p) correct _ (c .before .before .before .before .before .head-index .ensures) (A .phase) sets (c .before .before .before .if1 .taken) unclosed (c .before .has-mark .ensures) (c .if2 .taken)
 
 own-start-reached-requires : tie.Need-own-start-reached-requires
 own-start-reached-requires c κs = search needs
@@ -41,8 +41,8 @@ returns-2 : tie.Need-returns-2
 returns-2 c =
     let A = c .before .before .before .before .before .before .before .before .args in
     λ ws j s S g-is sets times correct unclosed.
-    let i-is = c .before .before .before .before .before .before .before .seat .ensures in
-    start-unheard S g-is (A .p) correct _ i-is (A .phase) sets (c .before .before .before .before .before .if1 .taken) unclosed (c .before .before .before .has-mark .ensures) (c .before .before .if2 .left)
+    let i-is = c .before .before .before .before .before .before .before .head-index .ensures in
+    start-unreached S g-is (A .p) correct _ i-is (A .phase) sets (c .before .before .before .before .before .if1 .taken) unclosed (c .before .before .before .has-mark .ensures) (c .before .before .if2 .left)
     (c .before .own-start-reached .ensures s times (p-low S g-is (A .p) correct _ i-is) (few-heads S g-is)) (c .if3 .taken)
 
 mul-frames-reached : tie.Need-mul-frames-reached
@@ -61,8 +61,8 @@ returns-3 : tie.Need-returns-3
 returns-3 c =
     let A = c .before .before .before .before .before .before .before .before .before .before .args in
     λ ws j s S g-is sets times correct unclosed.
-    let i-is = c .before .before .before .before .before .before .before .before .before .seat .ensures in
-    votes-heard S g-is (A .p) correct _ i-is (A .phase) sets (c .before .before .before .before .before .before .before .if1 .taken) unclosed (c .before .before .before .before .before .has-mark .ensures) (c .before .before .before .before .if2 .left)
+    let i-is = c .before .before .before .before .before .before .before .before .before .head-index .ensures in
+    votes-reached S g-is (A .p) correct _ i-is (A .phase) sets (c .before .before .before .before .before .before .before .if1 .taken) unclosed (c .before .before .before .before .before .has-mark .ensures) (c .before .before .before .before .if2 .left)
     (c .before .before .before .own-start-reached .ensures s times (p-low S g-is (A .p) correct _ i-is) (few-heads S g-is)) (c .before .before .if3 .left) (c .frames-reached .ensures)
 
 has-mark-requires-2 : tie.Need-has-mark-requires-2
@@ -72,7 +72,7 @@ returns-4 : tie.Need-returns-4
 returns-4 c =
     let A = c .before .before .before .before .before .args in
     λ ws j s S g-is sets times correct unclosed.
-    no-adjust-turn S g-is (A .p) correct _ (c .before .before .before .before .seat .ensures) (A .phase) sets (c .before .before .if1 .left) (c .before .has-mark2 .ensures) (c .if4 .taken)
+    no-adjust-turn S g-is (A .p) correct _ (c .before .before .before .before .head-index .ensures) (A .phase) sets (c .before .before .if1 .left) (c .before .has-mark2 .ensures) (c .if4 .taken)
 
 mul-frames-reached-2 : tie.Need-mul-frames-reached-2
 mul-frames-reached-2 c = search needs
@@ -90,13 +90,13 @@ returns-5 : tie.Need-returns-5
 returns-5 c =
     let A = c .before .before .before .before .before .before .before .args in
     λ ws j s S g-is sets times correct unclosed.
-    adjusts-heard S g-is (A .p) correct _ (c .before .before .before .before .before .before .seat .ensures) (A .phase) sets (c .before .before .before .before .if1 .left) (c .before .before .before .has-mark2 .ensures) (c .before .before .if4 .left) (c .frames-reached2 .ensures)
+    adjusts-reached S g-is (A .p) correct _ (c .before .before .before .before .before .before .head-index .ensures) (A .phase) sets (c .before .before .before .before .if1 .left) (c .before .before .before .has-mark2 .ensures) (c .before .before .if4 .left) (c .frames-reached2 .ensures)
 
 pub head-reached-spec : {M : Type 1} → statement M
 head-reached-spec =
     tie.close
     (tie.spec
-    seat-requires
+    head-index-requires
     mul-marks
     index-1-marks
     index-2-marks

@@ -8,11 +8,11 @@ use Rattle.protocol.specs.Words.{isCorrect, settingAt}
 use Rattle.protocol.specs.Run.{History}
 use Rattle.protocol.specs.Premises.{correctCloses}
 use Rattle.protocol.proofs.Tests.{not-true, not-false}
-use Rattle.data_sets.proofs.Loops.{all-more, all-fails, all-until, asked, unasked}
+use Rattle.data_sets.proofs.Loops.{all-more, all-fails, all-until, if-true, if-false}
 use Rattle.sheet_state.specs.Arrays.{Stands}
 use Rattle.judge_premise_3.specs.Starts.{startTimes}
-use Rattle.judge_premises_5_to_8.specs.Closes.{kindOf, receiverSets, heardFrom}
-use Rattle.judge_premises_5_to_8.proofs.Heard.{all-heard}
+use Rattle.judge_premises_5_to_8.specs.Closes.{phaseKind, receiverSets, headReached}
+use Rattle.judge_premises_5_to_8.proofs.Reached.{phase-by-heads}
 use native.Mathlib.Omega.{arith}
 use borrow.Author.Needs.{needs}
 use Rattle.judge_premises_5_to_8.proofs.phase_reached.Statement.{statement}
@@ -21,7 +21,7 @@ use Rattle.judge_premises_5_to_8.proofs.phase_reached.Tie as tie
 abbrev Inv-loop : tie.InvT-loop
 Inv-loop g phase heads received times p₀ p =
     (p ≤ g .n) × ((ws : List ℕ) (i : ℕ) (s : History) → Stands ws i s heads → g ≡ settingAt ws → received ≡ receiverSets s → times ≡ startTimes s
-    → any (correctCloses g (kindOf phase)) s ≡ false → allBelow p (λ q. isCorrect g q ⇒ heardFrom g (kindOf phase) s q) ≡ true)
+    → any (correctCloses g (phaseKind phase)) s ≡ false → allBelow p (λ q. isCorrect g q ⇒ headReached g (phaseKind phase) s q) ≡ true)
 
 abbrev μ-loop : tie.MeasureT-loop
 μ-loop g phase heads received times p₀ p = g .n - p
@@ -40,9 +40,9 @@ returns c =
     let A = c .before .before .before .before .before .before .before .args in
     λ ws i s S g-is sets times unclosed.
     let correct = sym (c .before .before .before .is-correct .ensures) ∙ c .before .before .if2 .taken in
-    sym (all-heard (A .g) (kindOf (A .phase)) s
-    ∙ all-fails (A .g .n) (c .before .before .before .before .before .before .loop .p) (λ q. isCorrect (A .g) q ⇒ heardFrom (A .g) (kindOf (A .phase)) s q) (c .before .before .before .before .if1 .taken)
-    (asked _ _ correct ∙ sym (c .before .head-reached .ensures ws i s S g-is sets times correct unclosed) ∙ not-true {b = c .before .head-reached .result} (c .if3 .taken)))
+    sym (phase-by-heads (A .g) (phaseKind (A .phase)) s
+    ∙ all-fails (A .g .n) (c .before .before .before .before .before .before .loop .p) (λ q. isCorrect (A .g) q ⇒ headReached (A .g) (phaseKind (A .phase)) s q) (c .before .before .before .before .if1 .taken)
+    (if-true _ _ correct ∙ sym (c .before .head-reached .ensures ws i s S g-is sets times correct unclosed) ∙ not-true {b = c .before .head-reached .result} (c .if3 .taken)))
 
 add-p : tie.Need-add-p Inv-loop μ-loop
 add-p c = search needs
@@ -55,12 +55,12 @@ loop-again c =
     let A = c .before .before .before .before .before .args in (
       search needs,
       λ ws i s S g-is sets times unclosed.
-          all-more (c .before .before .before .before .loop .p) (λ q. isCorrect (A .g) q ⇒ heardFrom (A .g) (kindOf (A .phase)) s q)
+          all-more (c .before .before .before .before .loop .p) (λ q. isCorrect (A .g) q ⇒ headReached (A .g) (phaseKind (A .phase)) s q)
           (c .before .before .before .before .loop .inv .1 ws i s S g-is sets times unclosed)
           (⊎-elim
           (λ w. let correct = sym (c .before .is-correct .ensures) ∙ w .0 .taken in
-          asked _ _ correct ∙ sym (w .1 .ensures ws i s S g-is sets times correct unclosed) ∙ not-false {b = w .1 .result} (w .2 .left))
-          (λ w. unasked _ _ (sym (c .before .is-correct .ensures) ∙ w .left))
+          if-true _ _ correct ∙ sym (w .1 .ensures ws i s S g-is sets times correct unclosed) ∙ not-false {b = w .1 .result} (w .2 .left))
+          (λ w. if-false _ _ (sym (c .before .is-correct .ensures) ∙ w .left))
           (c .if2 .came)),
     )
 
@@ -68,8 +68,8 @@ returns-2 : tie.Need-returns-2 Inv-loop μ-loop
 returns-2 c =
     let A = c .before .before .before .args in
     λ ws i s S g-is sets times unclosed.
-    sym (all-heard (A .g) (kindOf (A .phase)) s
-    ∙ all-until (A .g .n) (c .before .before .loop .p) (λ q. isCorrect (A .g) q ⇒ heardFrom (A .g) (kindOf (A .phase)) s q) (c .before .before .loop .inv .0) (c .if1 .left)
+    sym (phase-by-heads (A .g) (phaseKind (A .phase)) s
+    ∙ all-until (A .g .n) (c .before .before .loop .p) (λ q. isCorrect (A .g) q ⇒ headReached (A .g) (phaseKind (A .phase)) s q) (c .before .before .loop .inv .0) (c .if1 .left)
     (c .before .before .loop .inv .1 ws i s S g-is sets times unclosed))
 
 pub phase-reached-spec : {M : Type 1} → statement M

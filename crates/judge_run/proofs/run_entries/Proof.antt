@@ -9,11 +9,11 @@ use Rattle.judge_run.proofs.run_entries.Statement.{statement}
 use Rattle.judge_run.proofs.run_entries.Tie as tie
 
 abbrev Inv-loop : tie.InvT-loop
-Inv-loop sheet g count heads₀ choices₀ carried₀ received₀ times₀ leads₀ lags₀ found₀ steady₀ time₀ i₀ heads choices carried received times leads lags found steady time i =
-    (i ≤ count) × Keeps sheet g i heads choices carried received times leads lags found steady time
+Inv-loop sheet g count heads₀ choices₀ carried₀ received₀ times₀ gains₀ losses₀ found₀ steady₀ time₀ i₀ heads choices carried received times gains losses found steady time i =
+    (i ≤ count) × Keeps sheet g i heads choices carried received times gains losses found steady time
 
 abbrev μ-loop : tie.MeasureT-loop
-μ-loop sheet g count heads₀ choices₀ carried₀ received₀ times₀ leads₀ lags₀ found₀ steady₀ time₀ i₀ heads choices carried received times leads lags found steady time i = count - i
+μ-loop sheet g count heads₀ choices₀ carried₀ received₀ times₀ gains₀ losses₀ found₀ steady₀ time₀ i₀ heads choices carried received times gains losses found steady time i = count - i
 
 loop-holds : tie.Need-loop-holds Inv-loop μ-loop
 loop-holds c = let p = c .before .pre in (search needs, first-keeps _ _ _ (p .2) (p .3) (p .4))

@@ -20,15 +20,15 @@ put-refused-requires c κs = search needs
 enum-told : tie.Need-enum-told
 enum-told c = search needs
 
-words-of-requires : tie.Need-words-of-requires
-words-of-requires c κs = search needs
+big-endian-requires : tie.Need-big-endian-requires
+big-endian-requires c κs = search needs
 
 array-share-prefix-words : tie.Need-array-share-prefix-words
 array-share-prefix-words c =
-    let few = accepted-words _ (c .words-of .result) _ (c .before .before .before .bytes-verdict .ensures) (c .before .enum-told .given .1) (c .words-of .ensures .0) .0 in omega arith
+    let few = accepted-words _ (c .big-endian .result) _ (c .before .before .before .bytes-verdict .ensures) (c .before .enum-told .given .1) (c .big-endian .ensures .0) .0 in omega arith
 
 slice-aggregate-print-sheet : tie.Need-slice-aggregate-print-sheet
-slice-aggregate-print-sheet c = accepted-words _ (c .before .words-of .result) _ (c .before .before .before .before .bytes-verdict .ensures) (c .before .before .enum-told .given .1) (c .before .words-of .ensures .0) .1
+slice-aggregate-print-sheet c = accepted-words _ (c .before .big-endian .result) _ (c .before .before .before .before .bytes-verdict .ensures) (c .before .before .enum-told .given .1) (c .before .big-endian .ensures .0) .1
 
 print-sheet-requires : tie.Need-print-sheet-requires
 print-sheet-requires c κs = search needs
@@ -53,7 +53,7 @@ returns-2 c =
     let v = told .before .before in
     let s = v .before .before .before .args in
     let accepted = told .enum-told .given .1 in
-    let words = sheet .before .before .before .words-of .ensures .1 (few-bytes _ (sym (v .bytes-verdict .ensures) ∙ accepted)) in
+    let words = sheet .before .before .before .big-endian .ensures .1 (few-bytes _ (sym (v .bytes-verdict .ensures) ∙ accepted)) in
     prints (s .bytes .now) (s .out .now) _ _ _ (prints-sheet (s .bytes .now) _ (v .bytes-verdict .ensures) accepted _ words) (sheet .print-sheet .ensures)
 
 pub print-spec : {M : Type 1} → statement M
@@ -64,7 +64,7 @@ print-spec =
     enum-known-v
     put-refused-requires
     enum-told
-    words-of-requires
+    big-endian-requires
     array-share-prefix-words
     slice-aggregate-print-sheet
     print-sheet-requires

@@ -11,8 +11,8 @@ returns c = λ ws i s now time is fits. bad-entry now time is fits (c .if1 .take
 returns-2 : tie.Need-returns-2
 returns-2 c = λ ws i s now time is fits. time-fell now time is fits (c .before .before .if1 .left) (c .if2 .taken)
 
-seat-requires : tie.Need-seat-requires
-seat-requires c κs = search needs
+head-index-requires : tie.Need-head-index-requires
+head-index-requires c κs = search needs
 
 mul-if3 : tie.Need-mul-if3
 mul-if3 c = search needs
@@ -25,18 +25,18 @@ index-2-if3 c = search needs
 
 returns-3 : tie.Need-returns-3
 returns-3 c = λ ws i s now time is fits.
-    reading-fell now time is fits (c .before .before .before .before .before .before .if1 .left) (c .before .before .before .before .if2 .left) _ (c .before .before .before .seat .ensures) (c .if3 .taken)
+    reading-fell now time is fits (c .before .before .before .before .before .before .if1 .left) (c .before .before .before .before .if2 .left) _ (c .before .before .before .head-index .ensures) (c .if3 .taken)
 
 is-open-requires : tie.Need-is-open-requires
 is-open-requires c κs = search needs
 
 returns-4 : tie.Need-returns-4
 returns-4 c = λ ws i s now time is fits.
-    rest-is-open now time is fits (c .before .before .before .before .before .before .before .before .if1 .left) (c .before .before .before .before .before .before .if2 .left) _ (c .before .before .before .before .before .seat .ensures) (c .before .before .if3 .left) true (sym (c .before .is-open .ensures ws i s now is) ∙ c .if4 .taken)
+    rest-is-open now time is fits (c .before .before .before .before .before .before .before .before .if1 .left) (c .before .before .before .before .before .before .if2 .left) _ (c .before .before .before .before .before .head-index .ensures) (c .before .before .if3 .left) true (sym (c .before .is-open .ensures ws i s now is) ∙ c .if4 .taken)
 
 returns-5 : tie.Need-returns-5
 returns-5 c = λ ws i s now time is fits.
-    rest-is-open now time is fits (c .before .before .before .before .before .before .before .before .if1 .left) (c .before .before .before .before .before .before .if2 .left) _ (c .before .before .before .before .before .seat .ensures) (c .before .before .if3 .left) false (sym (c .before .is-open .ensures ws i s now is) ∙ c .if4 .left)
+    rest-is-open now time is fits (c .before .before .before .before .before .before .before .before .if1 .left) (c .before .before .before .before .before .before .if2 .left) _ (c .before .before .before .before .before .head-index .ensures) (c .before .before .if3 .left) false (sym (c .before .is-open .ensures ws i s now is) ∙ c .if4 .left)
 
 pub entry-verdict-spec : {M : Type 1} → statement M
 entry-verdict-spec =
@@ -44,7 +44,7 @@ entry-verdict-spec =
     (tie.spec
     returns
     returns-2
-    seat-requires
+    head-index-requires
     mul-if3
     index-1-if3
     index-2-if3

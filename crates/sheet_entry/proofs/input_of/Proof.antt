@@ -4,8 +4,8 @@ use borrow.Author.Needs.{needs}
 use Rattle.sheet_entry.proofs.input_of.Statement.{statement}
 use Rattle.sheet_entry.proofs.input_of.Tie as tie
 
-place-for-requires : tie.Need-place-for-requires
-place-for-requires c κs = search needs
+frame-index-requires : tie.Need-frame-index-requires
+frame-index-requires c κs = search needs
 
 element-copy-out-input-with : tie.Need-element-copy-out-input-with
 element-copy-out-input-with c = search needs
@@ -45,10 +45,10 @@ input-with-requires-3 c κs = search needs
 
 returns : tie.Need-returns
 returns c = λ ws i s heads now kept is.
-    c .input-with .ensures ∙ vote-input now kept is (c .before .before .before .before .before .match .keys1) _ (c .before .before .before .before .before .before .place-for .ensures .0) _ (c .before .before .vote-reading .ensures)
+    c .input-with .ensures ∙ vote-input now kept is (c .before .before .before .before .before .match .keys1) _ (c .before .before .before .before .before .before .frame-index .ensures .0) _ (c .before .before .vote-reading .ensures)
 
 returns-2 : tie.Need-returns-2
-returns-2 c = λ ws i s heads now kept is. c .input-with2 .ensures ∙ adjust-input now kept is (c .before .before .before .match .keys2) _ (c .before .before .before .before .place-for .ensures .0)
+returns-2 c = λ ws i s heads now kept is. c .input-with2 .ensures ∙ adjust-input now kept is (c .before .before .before .match .keys2) _ (c .before .before .before .before .frame-index .ensures .0)
 
 returns-3 : tie.Need-returns-3
 returns-3 c = λ ws i s heads now kept is. c .input-with3 .ensures ∙ plain-input now kept is (c .before .match .rest .0 .1) (c .before .match .rest .1)
@@ -57,7 +57,7 @@ pub input-of-spec : {M : Type 1} → statement M
 input-of-spec =
     tie.close
     (tie.spec
-    place-for-requires
+    frame-index-requires
     element-copy-out-input-with
     mul-vote-reading
     element-copy-out-vote-reading

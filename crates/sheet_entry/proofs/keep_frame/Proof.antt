@@ -3,14 +3,14 @@ use borrow.Author.Needs.{needs}
 use Rattle.sheet_entry.proofs.keep_frame.Statement.{statement}
 use Rattle.sheet_entry.proofs.keep_frame.Tie as tie
 
-cast-place-for : tie.Need-cast-place-for
-cast-place-for c = search needs
+cast-frame-index : tie.Need-cast-frame-index
+cast-frame-index c = search needs
 
-cast-place-for-2 : tie.Need-cast-place-for-2
-cast-place-for-2 c = search needs
+cast-frame-index-2 : tie.Need-cast-frame-index-2
+cast-frame-index-2 c = search needs
 
-place-for-requires : tie.Need-place-for-requires
-place-for-requires c κs = search needs
+frame-index-requires : tie.Need-frame-index-requires
+frame-index-requires c κs = search needs
 
 cast-choices : tie.Need-cast-choices
 cast-choices c = search needs
@@ -26,7 +26,7 @@ element-write-carried c = search needs
 
 returns : tie.Need-returns
 returns c = λ ws i s heads now kept taken head is.
-    stores-frame now kept taken is head (c .before .before .before .before .if1 .taken) (c .before .place-for .ensures .0)
+    stores-frame now kept taken is head (c .before .before .before .before .if1 .taken) (c .before .frame-index .ensures .0)
 
 returns-2 : tie.Need-returns-2
 returns-2 c = λ ws i s heads now kept taken head is. keeps-frames now kept taken is (c .if1 .left)
@@ -35,9 +35,9 @@ pub keep-frame-spec : {M : Type 1} → statement M
 keep-frame-spec =
     tie.close
     (tie.spec
-    cast-place-for
-    cast-place-for-2
-    place-for-requires
+    cast-frame-index
+    cast-frame-index-2
+    frame-index-requires
     cast-choices
     element-write-choices
     mul-carried

@@ -8,17 +8,17 @@ use Rattle.sheet_entry.proofs.take_entry.Tie as tie
 input-of-requires : tie.Need-input-of-requires
 input-of-requires c κs = search needs
 
-seat-requires : tie.Need-seat-requires
-seat-requires c κs = search needs
+head-index-requires : tie.Need-head-index-requires
+head-index-requires c κs = search needs
 
-mul-take : tie.Need-mul-take
-mul-take c = search needs
+mul-effect : tie.Need-mul-effect
+mul-effect c = search needs
 
-index-1-take : tie.Need-index-1-take
-index-1-take c = search needs
+index-1-effect : tie.Need-index-1-effect
+index-1-effect c = search needs
 
-take-requires : tie.Need-take-requires
-take-requires c κs = search needs
+effect-requires : tie.Need-effect-requires
+effect-requires c κs = search needs
 
 keep-frame-requires : tie.Need-keep-frame-requires
 keep-frame-requires c κs = search needs
@@ -26,10 +26,10 @@ keep-frame-requires c κs = search needs
 returns : tie.Need-returns
 returns c = λ ws i s now kept is accepted.
     let made = c .before .before .before .before .before .before .input-of .ensures ws i s _ now kept is in
-    let seated = c .before .before .before .before .before .seat .ensures in
-    let acts = c .before .before .before .take .ensures in (
-      heads-after now accepted is made seated acts,
-      c .keep-frame .ensures ws i s _ now kept accepted (ap (λ (e : Entry). e .head) is) (frame-after now accepted is made seated acts),
+    let index-is = c .before .before .before .before .before .head-index .ensures in
+    let acts = c .before .before .before .effect .ensures in (
+      heads-after now accepted is made index-is acts,
+      c .keep-frame .ensures ws i s _ now kept accepted (ap (λ (e : Entry). e .head) is) (frame-after now accepted is made index-is acts),
     )
 
 pub take-entry-spec : {M : Type 1} → statement M
@@ -37,9 +37,9 @@ take-entry-spec =
     tie.close
     (tie.spec
     input-of-requires
-    seat-requires
-    mul-take
-    index-1-take
-    take-requires
+    head-index-requires
+    mul-effect
+    index-1-effect
+    effect-requires
     keep-frame-requires
     returns)

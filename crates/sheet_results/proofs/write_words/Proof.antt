@@ -23,14 +23,14 @@ loop-holds c = (search needs, refl, λ r is range. refl)
 cast-i : tie.Need-cast-i Inv-loop μ-loop
 cast-i c = search needs
 
-mul-words-of : tie.Need-mul-words-of Inv-loop μ-loop
-mul-words-of c = search needs
+mul-head-words : tie.Need-mul-head-words Inv-loop μ-loop
+mul-head-words c = search needs
 
-index-1-words-of : tie.Need-index-1-words-of Inv-loop μ-loop
-index-1-words-of c = search needs
+index-1-head-words : tie.Need-index-1-head-words Inv-loop μ-loop
+index-1-head-words c = search needs
 
-words-of-requires : tie.Need-words-of-requires Inv-loop μ-loop
-words-of-requires c κs = omega arith
+head-words-requires : tie.Need-head-words-requires Inv-loop μ-loop
+head-words-requires c κs = omega arith
 
 mul-at : tie.Need-mul-at Inv-loop μ-loop
 mul-at c = search needs
@@ -66,7 +66,7 @@ loop-less : tie.Need-loop-less Inv-loop μ-loop
 loop-less c = search needs
 
 loop-again : tie.Need-loop-again Inv-loop μ-loop
-loop-again c = (omega arith, simp length-set (c .before .before .before .loop .inv .1), next-head _ _ _ _ _ _ (c .before .before .loop-test .taken) (c .before .before .before .before .before .pre .0) (c .before .before .before .before .before .pre .1) (c .before .before .before .loop .inv .2) (c .words-of .ensures))
+loop-again c = (omega arith, simp length-set (c .before .before .before .loop .inv .1), next-head _ _ _ _ _ _ (c .before .before .loop-test .taken) (c .before .before .before .before .before .pre .0) (c .before .before .before .before .before .pre .1) (c .before .before .before .loop .inv .2) (c .head-words .ensures))
 
 same-length : tie.Need-same-length Inv-loop μ-loop
 same-length c = search needs
@@ -82,9 +82,9 @@ write-words-spec =
     μ-loop
     loop-holds
     cast-i
-    mul-words-of
-    index-1-words-of
-    words-of-requires
+    mul-head-words
+    index-1-head-words
+    head-words-requires
     mul-at
     mul-out
     slice-write-out

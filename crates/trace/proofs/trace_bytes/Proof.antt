@@ -16,15 +16,15 @@ print-refused-requires c κs = search needs
 enum-told : tie.Need-enum-told
 enum-told c = search needs
 
-words-of-requires : tie.Need-words-of-requires
-words-of-requires c κs = search needs
+big-endian-requires : tie.Need-big-endian-requires
+big-endian-requires c κs = search needs
 
 array-share-prefix-words : tie.Need-array-share-prefix-words
 array-share-prefix-words c =
-    let few = accepted-words _ (c .words-of .result) _ (c .before .before .before .bytes-verdict .ensures) (c .before .enum-told .given .1) (c .words-of .ensures .0) .0 in omega arith
+    let few = accepted-words _ (c .big-endian .result) _ (c .before .before .before .bytes-verdict .ensures) (c .before .enum-told .given .1) (c .big-endian .ensures .0) .0 in omega arith
 
 slice-aggregate-print-sheet : tie.Need-slice-aggregate-print-sheet
-slice-aggregate-print-sheet c = accepted-words _ (c .before .words-of .result) _ (c .before .before .before .before .bytes-verdict .ensures) (c .before .before .enum-told .given .1) (c .before .words-of .ensures .0) .1
+slice-aggregate-print-sheet c = accepted-words _ (c .before .big-endian .result) _ (c .before .before .before .before .bytes-verdict .ensures) (c .before .before .enum-told .given .1) (c .before .big-endian .ensures .0) .1
 
 print-sheet-requires : tie.Need-print-sheet-requires
 print-sheet-requires c κs = search needs
@@ -43,7 +43,7 @@ trace-bytes-spec =
     enum-known-v
     print-refused-requires
     enum-told
-    words-of-requires
+    big-endian-requires
     array-share-prefix-words
     slice-aggregate-print-sheet
     print-sheet-requires

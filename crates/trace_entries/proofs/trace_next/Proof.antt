@@ -35,8 +35,8 @@ enum-told c = search needs
 take-entry-requires : tie.Need-take-entry-requires
 take-entry-requires c κs = search needs
 
-seat-requires : tie.Need-seat-requires
-seat-requires c κs = search needs
+head-index-requires : tie.Need-head-index-requires
+head-index-requires c κs = search needs
 
 mul-line-of : tie.Need-mul-line-of
 mul-line-of c = search needs
@@ -67,7 +67,7 @@ returns-2 c =
     let says = verdict .entry-verdict .ensures _ _ (f .past) (f .stands) (f .time-is) e-is (read .read-entry .ensures .1) in
     let accepted = sym says ∙ take .before .before .before .before .enum-told .given .1 in
     accepted-next f (count .entry-count .ensures) (read .before .before .if1 .taken) accepted
-    (take .take-entry .ensures _ _ (f .past) (f .stands) (f .carries) e-is accepted) _ _ _ e-is (c .before .before .seat .ensures) (c .line-of .ensures)
+    (take .take-entry .ensures _ _ (f .past) (f .stands) (f .carries) e-is accepted) _ _ _ e-is (c .before .before .head-index .ensures) (c .line-of .ensures)
 
 returns-3 : tie.Need-returns-3
 returns-3 c = ended-next (c .before .before .before .pre) (c .before .entry-count .ensures) (c .if1 .left)
@@ -85,7 +85,7 @@ trace-next-spec =
     add-t19
     enum-told
     take-entry-requires
-    seat-requires
+    head-index-requires
     mul-line-of
     index-1-line-of
     line-of-requires

@@ -21,8 +21,8 @@ element-copy-out-wrapping-add-u32 c = search needs
 wrapping-add-u32-requires : tie.Need-wrapping-add-u32-requires
 wrapping-add-u32-requires c κs = search needs
 
-index-requires : tie.Need-index-requires
-index-requires c κs = search needs
+head-index-requires : tie.Need-head-index-requires
+head-index-requires c κs = search needs
 
 add-row : tie.Need-add-row
 add-row c = search needs
@@ -40,7 +40,7 @@ returns-2 : tie.Need-returns-2
 returns-2 c =
     let d = c .before .before in
     start-taken _ _ _ (d .before .before .before .before .has-mark .ensures) _ _ _ _ (d .before .before .before .if1 .left)
-    (d .index .ensures) (d .before .wrapping-add-u32 .ensures) (c .lead .ensures)
+    (d .head-index .ensures) (d .before .wrapping-add-u32 .ensures) (c .lead .ensures)
 
 pub start-delivered-spec : {M : Type 1} → statement M
 start-delivered-spec =
@@ -52,7 +52,7 @@ start-delivered-spec =
     returns
     element-copy-out-wrapping-add-u32
     wrapping-add-u32-requires
-    index-requires
+    head-index-requires
     add-row
     mul-row
     element-write-row

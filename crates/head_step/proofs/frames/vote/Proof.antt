@@ -1,0 +1,84 @@
+use borrow.Author.Needs.{needs}
+use Rattle.head_step.proofs.Sends.{vote-gives}
+use Rattle.head_step.proofs.frames.vote.Statement.{statement}
+use Rattle.head_step.proofs.frames.vote.Tie as tie
+
+element-copy-out-serial : tie.Need-element-copy-out-serial
+element-copy-out-serial c = search needs
+
+element-copy-out-own : tie.Need-element-copy-out-own
+element-copy-out-own c = search needs
+
+head-index-requires : tie.Need-head-index-requires
+head-index-requires c κs = search needs
+
+add-x : tie.Need-add-x
+add-x c = search needs
+
+mul-x : tie.Need-mul-x
+mul-x c = search needs
+
+element-copy-out-x : tie.Need-element-copy-out-x
+element-copy-out-x c = search needs
+
+element-copy-out-with-mark : tie.Need-element-copy-out-with-mark
+element-copy-out-with-mark c = search needs
+
+with-mark-requires : tie.Need-with-mark-requires
+with-mark-requires c κs = search needs
+
+element-write-row : tie.Need-element-write-row
+element-write-row c = search needs
+
+wrapping-add-u32-requires : tie.Need-wrapping-add-u32-requires
+wrapping-add-u32-requires c κs = search needs
+
+element-write-row-2 : tie.Need-element-write-row-2
+element-write-row-2 c = search needs
+
+wrapping-add-u32-requires-2 : tie.Need-wrapping-add-u32-requires-2
+wrapping-add-u32-requires-2 c κs = search needs
+
+element-write-row-3 : tie.Need-element-write-row-3
+element-write-row-3 c = search needs
+
+head-index-requires-2 : tie.Need-head-index-requires-2
+head-index-requires-2 c κs = search needs
+
+add-row : tie.Need-add-row
+add-row c = search needs
+
+mul-row : tie.Need-mul-row
+mul-row c = search needs
+
+element-write-row-4 : tie.Need-element-write-row-4
+element-write-row-4 c = search needs
+
+returns : tie.Need-returns
+returns c =
+    let d = c .before .before .before in
+    vote-gives _ _ _ _ _ _ _ (d .with-mark .ensures) (c .before .before .wrapping-add-u32 .ensures) (c .before .wrapping-add-u322 .ensures)
+    (d .before .before .before .head-index .ensures) (c .head-index2 .ensures)
+
+pub vote-spec : {M : Type 1} → statement M
+vote-spec =
+    tie.close
+    (tie.spec
+    element-copy-out-serial
+    element-copy-out-own
+    head-index-requires
+    add-x
+    mul-x
+    element-copy-out-x
+    element-copy-out-with-mark
+    with-mark-requires
+    element-write-row
+    wrapping-add-u32-requires
+    element-write-row-2
+    wrapping-add-u32-requires-2
+    element-write-row-3
+    head-index-requires-2
+    add-row
+    mul-row
+    element-write-row-4
+    returns)

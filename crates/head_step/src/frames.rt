@@ -1,0 +1,112 @@
+// What a head sends of itself, and what that leaves in its row.
+use head_median::starts_held;
+use head_median::vote_median;
+use head_median::votes_held;
+use head_open::has_mark;
+use head_open::with_mark;
+use protocol::Sent;
+ghost use mathlib.Core.Path.{_≡_};
+ghost use mathlib.Core.Bool.{not, _&&_};
+ghost use Prim.Native.Nat.{_%_, _<_};
+ghost use Rattle.protocol.specs.declared.Frame.the-variants.{NoFrame};
+ghost use Rattle.protocol.specs.Record.{reading};
+ghost use Rattle.protocol.specs.Step.{vote, adjust, mayLead, lead, mayAdjust, propose, hasMark};
+ghost use Rattle.protocol.specs.Row.{sentOf};
+ghost use Rattle.head_row.specs.Promises.{Reads, Acts};
+
+pub fn no_frame() -> Sent
+    ensures { λ s. ⌜ s ≡ sentOf NoFrame ⌝ }
+{
+    Sent {
+        kind: 0,
+        serial: 0,
+        choice: 0,
+        carried: 0,
+    }
+}
+
+// The index of head p among sixteen numbers.
+pub fn head_index(p: u32) -> usize
+    ensures { λ i. ⌜ i ≡ p % 16 ⌝ }
+{
+    (p % 16) as usize
+}
+
+// "A vote carries the candidate and h's own start reading of it, or the mark "none"; it is also h's own vote reading"
+pub fn vote(row: &mut [u32; 80], c: u32) -> Sent
+    ensures { λ s. ⌜ (c < 16 → Acts (vote c) (now (row .entry)) (now (row .exit)) s) ⌝ }
+{
+    let serial = row[3];
+    let own = row[9];
+    let x = row[16 + head_index(c)];
+    row[1] = with_mark(row[1], 64);
+    row[2] = std::num::wrapping_add_u32(c, 1);
+    row[3] = std::num::wrapping_add_u32(serial, 1);
+    row[32 + head_index(own)] = x;
+    Sent {
+        kind: 5,
+        serial,
+        choice: c,
+        carried: x,
+    }
+}
+
+// An adjust carries adjuster and adjustment.
+pub fn adjust(row: &mut [u32; 80], a: u32, x: u32) -> Sent
+    ensures { λ s. ⌜ (a < 16 → Acts (adjust a (reading x)) (now (row .entry)) (now (row .exit)) s) ⌝ }
+{
+    let serial = row[5];
+    row[4] = std::num::wrapping_add_u32(a, 1);
+    row[5] = std::num::wrapping_add_u32(serial, 1);
+    row[6] = x;
+    Sent {
+        kind: 8,
+        serial,
+        choice: a,
+        carried: x,
+    }
+}
+
+// "once the turn is taken, with the vote open, no candidate"
+fn waits(marks: u32) -> bool
+    ensures { λ b. ⌜ b ≡ (hasMark marks 4 && (not (hasMark marks 8) && not (hasMark marks 64))) ⌝ }
+{
+    has_mark(marks, 4) && (!has_mark(marks, 8) && !has_mark(marks, 64))
+}
+
+// "and at least f + 1 start readings held"
+fn may_lead(row: &[u32; 80]) -> bool
+    ensures { λ b. ⌜ Reads mayLead (now (row .entry)) b ⌝ }
+{
+    waits(row[1]) && row[8] < starts_held(row)
+}
+
+// "After 2 and 4: .. h becomes its own candidate and votes"
+pub fn lead(row: &mut [u32; 80]) -> Sent
+    ensures { λ s. ⌜ Acts lead (now (row .entry)) (now (row .exit)) s ⌝ }
+{
+    if may_lead(row) {
+        let own = row[9];
+        return vote(row, own);
+    }
+    no_frame()
+}
+
+// 7: "With a candidate, no adjuster and at least one vote reading"
+fn may_adjust(row: &[u32; 80]) -> bool
+    ensures { λ b. ⌜ Reads mayAdjust (now (row .entry)) b ⌝ }
+{
+    row[2] != 0 && (row[4] == 0 && 1 <= votes_held(row))
+}
+
+// "h becomes adjuster, takes the median of the vote readings as adjustment and sends both"
+pub fn propose(row: &mut [u32; 80]) -> Sent
+    ensures { λ s. ⌜ Acts propose (now (row .entry)) (now (row .exit)) s ⌝ }
+{
+    if may_adjust(row) {
+        let own = row[9];
+        let x = vote_median(row);
+        return adjust(row, own, x);
+    }
+    no_frame()
+}

@@ -1,0 +1,49 @@
+use Rattle.sheet_results.proofs.Words.{outcome-is, adjustment-is, start-is}
+use borrow.Author.Needs.{needs}
+use Rattle.sheet_results.proofs.head_words.Statement.{statement}
+use Rattle.sheet_results.proofs.head_words.Tie as tie
+
+result-of-requires : tie.Need-result-of-requires
+result-of-requires c κs = search needs
+
+array-read-word-6 : tie.Need-array-read-word-6
+array-read-word-6 c = search needs
+
+array-read-word-6-2 : tie.Need-array-read-word-6-2
+array-read-word-6-2 c = search needs
+
+array-read-word-6-3 : tie.Need-array-read-word-6-3
+array-read-word-6-3 c = search needs
+
+word-6-requires : tie.Need-word-6-requires
+word-6-requires c κs = search needs
+
+array-read-t18 : tie.Need-array-read-t18
+array-read-t18 c = search needs
+
+add-t20 : tie.Need-add-t20
+add-t20 c = search needs
+
+array-read-t23 : tie.Need-array-read-t23
+array-read-t23 c = search needs
+
+add-t25 : tie.Need-add-t25
+add-t25 c = search needs
+
+returns : tie.Need-returns
+returns c = λ r is range. let words = c .word-6 .ensures in let result = c .before .result-of .ensures in let low = c .before .before .pre in (outcome-is _ _ _ _ low result words r is range, adjustment-is _ _ _ _ low result words r is range, start-is _ _ _ _ low result words r is range)
+
+pub head-words-spec : {M : Type 1} → statement M
+head-words-spec =
+    tie.close
+    (tie.spec
+    result-of-requires
+    array-read-word-6
+    array-read-word-6-2
+    array-read-word-6-3
+    word-6-requires
+    array-read-t18
+    add-t20
+    array-read-t23
+    add-t25
+    returns)
