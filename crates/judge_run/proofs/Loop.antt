@@ -1,5 +1,5 @@
 -- The pass over the entries: what its arrays say of the history so far, one entry on, and at the end.
--- Main results: `first-keeps`, `pass-refused`, `found-index`, `keeps-next`, `judged-at`, `pass-ends`.
+-- Main results: `first-keeps`, `run-refused`, `pass-refused`, `found-index`, `keeps-next`, `judged-at`, `pass-ends`.
 use mathlib.Core.Path.{_≡_, refl, sym, _∙_, ap, subst}
 use mathlib.Core.Bool.{Bool, true, false, not, _&&_}
 use mathlib.Core.List.{List, [], _∷_}
@@ -85,11 +85,15 @@ module _ (ws : List ℕ) (g : Setting) (i : ℕ) (heads : List (List ℕ)) (choi
   verdict-is : v ≡ answerAt ws i (k .history) .verdict
   verdict-is = verdict ws i (k .history) (k .stands) (k .time-is) e-is fits-is
 
-  pub pass-refused : (c : Cause) (count : ℕ) (after : List (List ℕ)) → i < count → v ≡ Refused c → Passes g (runOf ws count) (Unjudged c (2 + 3 * i)) after
-  pass-refused c count after lt r =
+  pub run-refused : (c : Cause) (count : ℕ) → i < count → v ≡ Refused c → runOf ws count ≡ stopped c (placeOf i)
+  run-refused c count lt r =
       let stop : runOf ws (suc i) ≡ stopped c (placeOf i) = stops ws i (k .stands .is-run) c (sym verdict-is ∙ r) in
       let more : (count - suc i) + suc i ≡ count = omega arith in
-      let ended : runOf ws count ≡ stopped c (placeOf i) = subst (λ (m : ℕ). runOf ws m ≡ stopped c (placeOf i)) more (stays-stopped ws (suc i) (count - suc i) c (placeOf i) stop) in
+      subst (λ (m : ℕ). runOf ws m ≡ stopped c (placeOf i)) more (stays-stopped ws (suc i) (count - suc i) c (placeOf i) stop)
+
+  pub pass-refused : (c : Cause) (count : ℕ) (after : List (List ℕ)) → i < count → v ≡ Refused c → Passes g (runOf ws count) (Unjudged c (2 + 3 * i)) after
+  pass-refused c count after lt r =
+      let ended = run-refused c count lt r in
       record {
         judged-is = rw ended refl;
         heads-are = λ s is. absurd (let z : _≡_ {A = ℕ} 0 1 = cc in omega arith);

@@ -8,7 +8,7 @@ use protocol::Cause;
 use sheet_results::result_word;
 ghost use mathlib.Core.Path.{_≡_};
 ghost use mathlib.Core.List.{[], _∷_, _++_};
-ghost use Rattle.protocol.specs.Program.{decimal, line, headLines, refusedLine};
+ghost use Rattle.protocol.specs.Program.{decimal, line, headLines, premisesLine, refusedLine, brokenLine};
 ghost use Rattle.print_lines.specs.Lines.{headLineOf, resultLines};
 ghost use Rattle.print_text.specs.Written.{written, endOf};
 
@@ -66,13 +66,33 @@ fn put_head_lines(results: &[u32], n: u8, out: &mut [u8], at: usize) -> usize
     p
 }
 
-// The heads' lines, "then `premises` and the first broken premise or 0".
+// "then `premises` and the first broken premise or 0"
+pub fn put_premises(premise: u8, out: &mut [u8], at: usize) -> usize
+    ensures { λ r. ⌜ (now (out .exit) ≡ written (now (out .entry)) at (premisesLine premise)) × (r ≡ endOf at (premisesLine premise)) ⌝ }
+{
+    let p = put_text(out, at, b"premises ");
+    put_last(premise as u64, out, p)
+}
+
+// The same of a broken premise, and where it was broken: at the end, or at an entry.
+pub fn put_broken(premise: u8, entry: usize, out: &mut [u8], at: usize) -> usize
+    ensures { λ r. ⌜ (now (out .exit) ≡ written (now (out .entry)) at (brokenLine premise entry)) × (r ≡ endOf at (brokenLine premise entry)) ⌝ }
+{
+    let p = put_text(out, at, b"premises ");
+    let p = put_field(premise as u64, out, p);
+    if (premise == 1) | (premise == 4) {
+        return put_text(out, p, b"end\n");
+    }
+    let p = put_text(out, p, b"entry ");
+    put_last(entry as u64, out, p)
+}
+
+// The heads' lines, and the line of the premises.
 pub fn put_results(results: &[u32], n: u8, premise: u8, out: &mut [u8], at: usize) -> usize
     ensures { λ r. ⌜ (now (out .exit) ≡ written (now (out .entry)) at (resultLines (now (results .entry)) n premise)) × (r ≡ endOf at (resultLines (now (results .entry)) n premise)) ⌝ }
 {
     let p = put_head_lines(results, n, out, at);
-    let p = put_text(out, p, b"premises ");
-    put_last(premise as u64, out, p)
+    put_premises(premise, out, p)
 }
 
 // "or only `refused`, number, place"

@@ -22,8 +22,8 @@ use Rattle.protocol.specs.Program.{headLine, headLines, refusedLine, bigEndian,
 use Rattle.protocol.proofs.Valid.{heads-fit, accepted-sheet}
 use Rattle.protocol.proofs.ResultWords.{length-words, filled}
 use Rattle.protocol.proofs.Fits.{sheet-fits}
-use Rattle.print_text.specs.Written.{written, endOf}
-use Rattle.print_text.proofs.Texts.{Wrote}
+use Rattle.print_text.specs.Written.{written}
+use Rattle.print_text.proofs.Texts.{Wrote, from-first}
 use Rattle.print_lines.specs.Lines.{resultLines}
 use Rattle.print_replay.proofs.Lengths.{printed-short}
 
@@ -108,8 +108,5 @@ module _ (bytes : List ℕ) (v : Verdict) (says : v ≡ bytesVerdict bytes) wher
 -- it starts at the buffer's first byte, and the position that comes back is the number of bytes
 pub prints : (bytes out after text : List ℕ) (r : ℕ) → text ≡ printed bytes → Wrote out after 0 r text
     → (after ≡ written out 0 (printed bytes)) × (r ≡ length (printed bytes)) × (r ≤ 1024)
-unfolding endOf
 prints bytes out after text r e w =
-    let short = printed-short bytes in
-    let count : r ≡ length (printed bytes) = rw (← e) (let s : length text ≤ 1024 = rw e short in omega (arith, w .1)) in
-    (rw (← e) (w .0), count, omega arith)
+    let bound = from-first out after text r 1024 (rw e (printed-short bytes)) (omega arith) w in (rw (← e) (w .0), rw (← e) (bound .0), bound .1)

@@ -1,5 +1,5 @@
 -- A text in a buffer, and a text behind a text.
--- Main results: `one-byte`, `no-room`, `then`, `next-byte`, `length-written`, `all-in`.
+-- Main results: `one-byte`, `no-room`, `then`, `next-byte`, `length-written`, `all-in`, `from-first`.
 use mathlib.Core.Path.{_≡_, refl, sym, _∙_, ap}
 use mathlib.Core.List.{List, [], _∷_, _++_}
 use Prim.Native.Nat.{ℕ, suc, _+_, _^_, _≤_, _<_}
@@ -82,3 +82,8 @@ stores out at (b ∷ text) = stores (set out at b) (suc at) text
 -- where there is room the text stands in the buffer whole, between what stood before and behind it
 pub all-in : (out : List ℕ) (at : ℕ) (text : List ℕ) → at + length text ≤ length out → written out at text ≡ take at out ++ text ++ drop (at + length text) out
 all-in out at text h = stores out at text ∙ sets-eq text out at h
+
+-- a text from the first byte on: the position that comes back is the number of its bytes
+pub from-first : (out after text : List ℕ) (r most : ℕ) → length text ≤ most → most < lastPosition → Wrote out after 0 r text → (r ≡ length text) × (r ≤ most)
+unfolding endOf
+from-first out after text r most short room w = let end = w .1 in (omega arith, omega arith)

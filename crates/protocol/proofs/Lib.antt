@@ -12,6 +12,7 @@ pub mod Medians
 pub mod Ranges
 pub mod Phases
 pub mod Runs
+pub mod Broken
 pub mod Frames
 pub mod Starts
 pub mod Rounds

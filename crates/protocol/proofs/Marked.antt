@@ -15,7 +15,7 @@ use Rattle.protocol.specs.Run.{recordOf, frameSent, inputOf, stepEntry, 
 use Rattle.protocol.specs.Results.{outcomeWord, adjustmentWord, startWord, wordsFrom, resultWords, replay}
 use Rattle.protocol.specs.Premises.{each, before, lastStart, premise1, premise2, startWithin, premise3, premise4, framesReached, votesReached, premise5, noneBetween, premise6, adjustsReached, premise7, premise8, firstBroken, judge}
 use Rattle.protocol.specs.Claim.{endingInWords}
-use Rattle.protocol.specs.Program.{decimal, signed, line, headLines, refusedLine, printSheet}
+use Rattle.protocol.specs.Program.{decimal, signed, line, headLines, refusedLine, premisesLine, printSheet}
 use Rattle.protocol.specs.Marked.{Case, m1, lookAt, marked}
 use Rattle.protocol.proofs.Tests.{sameList, same-list, all-at}
 
@@ -30,7 +30,7 @@ unfolding settingOf firstWordFits entryOf entryFits fresh chosenStart outcome co
     vote adjust startsHeld mayLead lead voteReadings mayAdjust propose delivered effect isClosed takeAction actionOf counterReading sheetVerdict
     recordOf frameSent inputOf stepEntry andThen runOf runSheet outcomeWord adjustmentWord startWord wordsFrom resultWords replay
     each before lastStart premise1 premise2 startWithin premise3 premise4 framesReached votesReached premise5 noneBetween premise6 adjustsReached premise7 premise8 firstBroken judge
-    endingInWords decimal signed line headLines refusedLine printSheet m1 lookAt marked
+    endingInWords decimal signed line headLines refusedLine premisesLine printSheet m1 lookAt marked
 all-pass = refl
 
 -- each marked case gives what document 01 says, M1 at index 0

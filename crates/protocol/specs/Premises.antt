@@ -4,6 +4,7 @@ use mathlib.Core.Bool.{Bool, true, cond, not, _&&_, _||_}
 use mathlib.Core.List.{List, [], _∷_}
 use Prim.Native.Nat.{ℕ, suc, _+_, _-_, _*_}
 use lib.Dec.{leb, eqb}
+use lib.ListN.{length, getD}
 use Rattle.protocol.specs.Base.{_⇒_, any, all, allBelow, countBelow, distance}
 use Rattle.protocol.specs.Types.{Setting, Entry, Judged, Kept, Broken, Unjudged}
 use Rattle.protocol.specs.Words.{isCorrect, settingAt}
@@ -154,3 +155,16 @@ abbrev pub judgedNumbers : Judged → List ℕ
 judgedNumbers Kept = 0 ∷ 0 ∷ 0 ∷ []
 judgedNumbers (Broken i) = 0 ∷ 0 ∷ i ∷ []
 judgedNumbers (Unjudged c p) = causeNumber c ∷ p ∷ 0 ∷ []
+
+-- how many entries, from the first on, keep a test: the index of the entry at which it first fails, the count of the entries
+-- where it never does
+unfoldable pub keptUpTo : (History → Bool) → History → ℕ
+keptUpTo t [] = 0
+keptUpTo t (e ∷ s) = cond (eqb (keptUpTo t s) (length s) && t (e ∷ s)) (suc (length s)) (keptUpTo t s)
+
+-- the index of the entry at which the premise's test first fails; premises 1 and 4 are asked of a whole sheet, at its end
+abbrev pub isAskedAtEnd : ℕ → Bool
+isAskedAtEnd i = eqb i 1 || eqb i 4
+
+unfoldable pub brokenAt : Setting → ℕ → History → ℕ
+brokenAt g i h = keptUpTo (λ s. getD (premises g s) (i - 1) true) h

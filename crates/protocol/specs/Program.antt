@@ -5,12 +5,12 @@ use Prim.Native.Nat.{ℕ, zero, suc, _+_, _*_, _/_, _%_}
 use lib.Dec.{ltb, eqb}
 use lib.ListN.{length}
 use lib.IntN.{ℤ, pos, negsuc}
-use Rattle.protocol.specs.Types.{Setting, Cause, TooManyWords, BadLength, Verdict, Accepted, Refused, Judged}
+use Rattle.protocol.specs.Types.{Setting, Cause, TooManyWords, BadLength, Verdict, Accepted, Refused, Judged, Kept, Broken, Unjudged}
 use Rattle.protocol.specs.Words.{timeOf, settingAt}
 use Rattle.protocol.specs.Causes.{causeNumber}
-use Rattle.protocol.specs.Run.{Run, stopped, ran, runSheet}
+use Rattle.protocol.specs.Run.{History, Run, stopped, ran, runSheet}
 use Rattle.protocol.specs.Results.{resultWords}
-use Rattle.protocol.specs.Premises.{premiseNumber, judge}
+use Rattle.protocol.specs.Premises.{premiseNumber, judge, isAskedAtEnd, brokenAt}
 use Rattle.protocol.specs.Claim.{Ending, endingInWords, resultOf}
 
 -- "big-endian words on standard input"; bytes past the last whole word are dropped
@@ -62,9 +62,12 @@ unfoldable pub refusedLine : Cause → ℕ → List ℕ
 refusedLine c p = line (refusedWord ∷ decimal (causeNumber c) ∷ decimal p ∷ [])
 
 -- "then `premises` and the first broken premise or 0"
+unfoldable pub premisesLine : ℕ → List ℕ
+premisesLine i = line (premisesWord ∷ decimal i ∷ [])
+
 abbrev pub printRun : Setting → Judged → Run → List ℕ
 printRun g j (stopped c p) = refusedLine c p
-printRun g j (ran h) = headLines (resultWords g h) (g .n) ++ line (premisesWord ∷ decimal (premiseNumber j) ∷ [])
+printRun g j (ran h) = headLines (resultWords g h) (g .n) ++ premisesLine (premiseNumber j)
 
 unfoldable pub printSheet : List ℕ → List ℕ
 printSheet ws = printRun (settingAt ws) (judge ws) (runSheet ws)
@@ -80,3 +83,37 @@ printBytes (Refused c) bytes = refusedLine c 0
 
 unfoldable pub printed : List ℕ → List ℕ
 printed bytes = printBytes (bytesVerdict bytes) bytes
+
+-- THE LAST LINE OF THE PROGRAM TRACE: as replay's, and where the first broken premise was broken
+
+-- `entry` and `end`
+abbrev pub entryWord : List ℕ
+entryWord = 101 ∷ 110 ∷ 116 ∷ 114 ∷ 121 ∷ []
+
+abbrev pub endWord : List ℕ
+endWord = 101 ∷ 110 ∷ 100 ∷ []
+
+-- a broken premise: its number and `end`, or its number, `entry` and the entry's index
+unfoldable pub brokenLine : ℕ → ℕ → List ℕ
+brokenLine i k =
+    cond (isAskedAtEnd i) (line (premisesWord ∷ decimal i ∷ endWord ∷ [])) (line (premisesWord ∷ decimal i ∷ entryWord ∷ decimal k ∷ []))
+
+abbrev pub premisesWhere : Setting → History → Judged → List ℕ
+premisesWhere g h Kept = premisesLine 0
+premisesWhere g h (Broken i) = brokenLine i (brokenAt g i h)
+premisesWhere g h (Unjudged c p) = refusedLine c p
+
+abbrev pub lastLineOf : Setting → Judged → Run → List ℕ
+lastLineOf g j (stopped c p) = refusedLine c p
+lastLineOf g j (ran h) = premisesWhere g h j
+
+unfoldable pub lastLine : List ℕ → List ℕ
+lastLine ws = lastLineOf (settingAt ws) (judge ws) (runSheet ws)
+
+-- of a sheet's bytes, of which causes 1 and 2 are tested first
+abbrev pub lastLineAfter : Verdict → List ℕ → List ℕ
+lastLineAfter Accepted bytes = lastLine (bigEndian bytes)
+lastLineAfter (Refused c) bytes = refusedLine c 0
+
+unfoldable pub lastLineOfBytes : List ℕ → List ℕ
+lastLineOfBytes bytes = lastLineAfter (bytesVerdict bytes) bytes

@@ -1,12 +1,11 @@
 // Prints, after every entry of a run sheet: its index, real time, head and action, then the head's candidate, adjuster
-// and adjustment (- for none) and outcome; or `refused`, the cause's number and the place, at the entry that is refused.
+// and adjustment (- for none) and outcome. Its last line: `refused`, the cause's number and the place; or `premises`, the first
+// broken premise or 0, and where it was broken: `entry` and its index, or `end`.
 // The sheet comes on standard input; it has at most 49,160 bytes, so one that fills the buffer is too long.
 use data_bytes::big_endian;
 use data_bytes::bytes_verdict;
-use data_values::cause_number;
 use libc::STDIN_FILENO;
 use libc::STDOUT_FILENO;
-use protocol::Cause;
 use protocol::OptNumber;
 use protocol::Verdict;
 use sheet_words::sheet_verdict;
@@ -14,6 +13,7 @@ use trace_entries::Line;
 use trace_entries::Traced;
 use trace_entries::first_heads;
 use trace_entries::trace_next;
+use trace_last::put_last_line;
 ghost use mathlib.Core.Path.{_≡_};
 ghost use Rattle.protocol.specs.declared.Verdict.the-variants.{Accepted};
 ghost use Rattle.protocol.specs.Causes.{sheetVerdict};
@@ -60,13 +60,6 @@ fn print_line(i: usize, l: Line) {
     print(b"\n");
 }
 
-fn print_refused(c: Cause, place: usize) {
-    print(b"refused ");
-    print_field(cause_number(c) as u64);
-    print_number(place as u64);
-    print(b"\n");
-}
-
 // Prints the entries of an accepted sheet, up to one that is refused.
 fn print_entries(sheet: &[u32])
     requires { ⌜ sheetVerdict (now sheet) ≡ Accepted ⌝ }
@@ -84,10 +77,7 @@ fn print_entries(sheet: &[u32])
                 time = l.time.0;
                 i += 1;
             }
-            Traced::RefusedAt(c, place) => {
-                print_refused(c, place);
-                return;
-            }
+            Traced::RefusedAt(_, _) => return,
             Traced::Ended => return,
         }
     }
@@ -96,15 +86,15 @@ fn print_entries(sheet: &[u32])
 fn print_sheet(sheet: &[u32]) {
     let v = sheet_verdict(sheet);
     match v {
-        Verdict::Refused(c) => print_refused(c, 0),
+        Verdict::Refused(_) => {}
         Verdict::Accepted => print_entries(sheet),
     }
 }
 
-fn trace_bytes(bytes: &[u8]) {
+fn print_words(bytes: &[u8]) {
     let v = bytes_verdict(bytes);
     match v {
-        Verdict::Refused(c) => print_refused(c, 0),
+        Verdict::Refused(_) => {}
         Verdict::Accepted => {
             let words = big_endian(bytes);
             print_sheet(&words[..bytes.len() / 4]);
@@ -112,8 +102,15 @@ fn trace_bytes(bytes: &[u8]) {
     }
 }
 
+fn print_last(bytes: &[u8]) {
+    let mut out = [0u8; 64];
+    let n = put_last_line(bytes, &mut out);
+    print(&out[..n]);
+}
+
 fn main() {
     let mut buffer = io::large_buffer();
     let n = io::read_full(STDIN_FILENO, &mut buffer);
-    trace_bytes(&buffer[..n]);
+    print_words(&buffer[..n]);
+    print_last(&buffer[..n]);
 }

@@ -36,17 +36,14 @@ loop-less c = let reached = c .before .before .before .before .trace-next .ensur
 loop-again : tie.Need-loop-again Inv-loop μ-loop
 loop-again c = c .before .before .before .before .trace-next .ensures .1 _ (c .before .before .t .given .1)
 
-enum-known-t-2 : tie.Need-enum-known-t-2 Inv-loop μ-loop
-enum-known-t-2 c = search needs
-
-print-refused-requires : tie.Need-print-refused-requires Inv-loop μ-loop
-print-refused-requires c κs = search needs
+enum-told : tie.Need-enum-told Inv-loop μ-loop
+enum-told c = search needs
 
 returns : tie.Need-returns Inv-loop μ-loop
 returns c = search needs
 
-enum-told : tie.Need-enum-told Inv-loop μ-loop
-enum-told c = search needs
+enum-told-2 : tie.Need-enum-told-2 Inv-loop μ-loop
+enum-told-2 c = search needs
 
 returns-2 : tie.Need-returns-2 Inv-loop μ-loop
 returns-2 c = search needs
@@ -65,8 +62,7 @@ print-entries-spec =
     add-i
     loop-less
     loop-again
-    enum-known-t-2
-    print-refused-requires
-    returns
     enum-told
+    returns
+    enum-told-2
     returns-2)

@@ -6,17 +6,14 @@ use Rattle.trace.proofs.print_sheet.Tie as tie
 sheet-verdict-requires : tie.Need-sheet-verdict-requires
 sheet-verdict-requires c κs = search needs
 
-enum-known-v : tie.Need-enum-known-v
-enum-known-v c = search needs
-
-print-refused-requires : tie.Need-print-refused-requires
-print-refused-requires c κs = search needs
-
 enum-told : tie.Need-enum-told
 enum-told c = search needs
 
+enum-told-2 : tie.Need-enum-told-2
+enum-told-2 c = search needs
+
 print-entries-requires : tie.Need-print-entries-requires
-print-entries-requires c κs = sym (c .before .before .sheet-verdict .ensures) ∙ c .enum-told .given .1
+print-entries-requires c κs = sym (c .before .before .sheet-verdict .ensures) ∙ c .enum-told2 .given .1
 
 returns : tie.Need-returns
 returns c = search needs
@@ -29,9 +26,8 @@ print-sheet-spec =
     tie.close
     (tie.spec
     sheet-verdict-requires
-    enum-known-v
-    print-refused-requires
     enum-told
+    enum-told-2
     print-entries-requires
     returns
     returns-2)

@@ -1,0 +1,117 @@
+-- What the arrays say of the entries so far is kept at each turn (`Keeps`), and the premise is broken at none of them.
+use mathlib.Core.Path.{ap}
+use Prim.Native.Nat.{_-_, _≤_, _<_}
+use Rattle.protocol.specs.declared.Setting.{Setting}
+use Rattle.protocol.specs.Run.{runOf}
+use Rattle.judge_run.proofs.Loop.{Keeps, first-keeps, run-refused, found-index, keeps-next}
+use Rattle.trace_broken.specs.Broken.{TellsWhere}
+use Rattle.trace_broken.proofs.Where.{before-first, one-on, here, all-kept, refused-anyway}
+use native.Mathlib.Omega.{arith}
+use borrow.Author.Needs.{needs}
+use Rattle.trace_broken.proofs.kept_entries.Statement.{statement}
+use Rattle.trace_broken.proofs.kept_entries.Tie as tie
+
+abbrev Inv-loop : tie.InvT-loop
+Inv-loop sheet g count premise heads₀ choices₀ carried₀ received₀ times₀ gains₀ losses₀ found₀ steady₀ time₀ i₀ heads choices carried received times gains losses found steady time i =
+    (i ≤ count) × Keeps sheet g i heads choices carried received times gains losses found steady time × TellsWhere g (runOf sheet i) premise i
+
+abbrev μ-loop : tie.MeasureT-loop
+μ-loop sheet g count premise heads₀ choices₀ carried₀ received₀ times₀ gains₀ losses₀ found₀ steady₀ time₀ i₀ heads choices carried received times gains losses found steady time i =
+    count - i
+
+loop-holds : tie.Need-loop-holds Inv-loop μ-loop
+loop-holds c = let p = c .before .pre in (search needs, first-keeps _ _ _ (p .2) (p .3) (p .4), before-first _ _ _)
+
+read-entry-requires : tie.Need-read-entry-requires Inv-loop μ-loop
+read-entry-requires c κs = let p = c .before .before .before .pre in (omega arith, p .1, ap (λ (g : Setting). g .n) (p .3))
+
+entry-verdict-requires : tie.Need-entry-verdict-requires Inv-loop μ-loop
+entry-verdict-requires c κs = search needs
+
+enum-told : tie.Need-enum-told Inv-loop μ-loop
+enum-told c = search needs
+
+returns : tie.Need-returns Inv-loop μ-loop
+returns c =
+    let r = c .before .before .before .before .before .read-entry .ensures in
+    let stop = run-refused _ _ _ _ _ _ _ _ _ _ _ _ _ (c .before .before .before .before .before .before .before .loop .inv .1) _ _ (r .0) (r .1) _ (c .before .before .entry-verdict .ensures) _ _ (c .before .before .before .before .before .before .loop-test .taken) (c .enum-told .given .1) in
+    refused-anyway _ _ _ _ _ _ _ stop
+
+enum-told-2 : tie.Need-enum-told-2 Inv-loop μ-loop
+enum-told-2 c = search needs
+
+breaks-requires : tie.Need-breaks-requires Inv-loop μ-loop
+breaks-requires c κs = search needs
+
+take-entry-requires : tie.Need-take-entry-requires Inv-loop μ-loop
+take-entry-requires c κs = search needs
+
+array-write-found : tie.Need-array-write-found Inv-loop μ-loop
+array-write-found c =
+    let t = c .before .before .before .before in
+    let v = t .before .before .before .before .before .before .before in
+    let low : t .breaks .result < 16 =
+    found-index _ _ _ _ _ _ _ _ _ _ _ _ _ (v .before .before .before .before .before .loop .inv .1) _ _ (v .before .before .before .read-entry .ensures .0) (v .before .before .before .read-entry .ensures .1) _ (v .entry-verdict .ensures) (t .before .before .before .before .before .enum-told2 .given .1) (v .before .before .before .before .before .before .before .pre .3) _ _ _ _ (t .breaks .ensures) in
+    search needs
+
+keeps-steady-requires : tie.Need-keeps-steady-requires Inv-loop μ-loop
+keeps-steady-requires c κs = search needs
+
+is-broken-requires : tie.Need-is-broken-requires Inv-loop μ-loop
+is-broken-requires c κs = search needs
+
+returns-2 : tie.Need-returns-2 Inv-loop μ-loop
+returns-2 c =
+    let t = c .before .before .before .before .before .before .before .before .before .before in
+    let v = t .before .before .before .before .before .before .before in
+    let l = v .before .before .before .before .before .loop in
+    let r = v .before .before .before .read-entry .ensures in
+    let k = keeps-next _ _ _ _ _ _ _ _ _ _ _ _ _ (l .inv .1) _ _ (r .0) (r .1) _ (v .entry-verdict .ensures) (t .before .before .before .before .before .enum-told2 .given .1) (v .before .before .before .before .before .before .before .pre .3) _ _ _ _ (t .breaks .ensures) _ _ _ (c .before .before .before .before .before .before .take-entry .ensures) _ _ (c .before .before .before .keeps-steady .result) (c .before .before .before .keeps-steady .ensures) in
+    here _ _ _ _ (l .inv .2) (k .history) (k .stands .is-run) _ _ (k .steady-is) (k .judge-state .found-is) _ (c .before .is-broken .ensures) (c .if1 .taken) _ (v .before .before .before .before .loop-test .taken)
+
+add-i : tie.Need-add-i Inv-loop μ-loop
+add-i c =
+    let v = c .before .before .before .before .before .before .before .before .before .before .before .before .before .before .before .before .before in
+    let lt = v .before .before .before .before .loop-test .taken in
+    let p = v .before .before .before .before .before .before .before .pre in
+    let inside = p .0 in
+    let most = p .1 in
+    search needs
+
+loop-less : tie.Need-loop-less Inv-loop μ-loop
+loop-less c = search needs
+
+loop-again : tie.Need-loop-again Inv-loop μ-loop
+loop-again c =
+    let t = c .before .before .before .before .before .before .before .before .before .before in
+    let v = t .before .before .before .before .before .before .before in
+    let l = v .before .before .before .before .before .loop in
+    let r = v .before .before .before .read-entry .ensures in
+    let k = keeps-next _ _ _ _ _ _ _ _ _ _ _ _ _ (l .inv .1) _ _ (r .0) (r .1) _ (v .entry-verdict .ensures) (t .before .before .before .before .before .enum-told2 .given .1) (v .before .before .before .before .before .before .before .pre .3) _ _ _ _ (t .breaks .ensures) _ _ _ (c .before .before .before .before .before .before .take-entry .ensures) _ _ (c .before .before .before .keeps-steady .result) (c .before .before .before .keeps-steady .ensures) in
+    (search needs, k, one-on _ _ _ _ (l .inv .2) (k .history) (k .stands .is-run) _ _ (k .steady-is) (k .judge-state .found-is) _ (c .before .is-broken .ensures) (c .if1 .left))
+
+returns-3 : tie.Need-returns-3 Inv-loop μ-loop
+returns-3 c = let l = c .before .loop in all-kept _ _ _ _ _ (l .inv .0) (c .loop-test .left) (l .inv .2)
+
+pub kept-entries-spec : {M : Type 1} → statement M
+kept-entries-spec =
+    tie.close
+    (tie.spec
+    Inv-loop
+    μ-loop
+    loop-holds
+    read-entry-requires
+    entry-verdict-requires
+    enum-told
+    returns
+    enum-told-2
+    breaks-requires
+    take-entry-requires
+    array-write-found
+    keeps-steady-requires
+    is-broken-requires
+    returns-2
+    add-i
+    loop-less
+    loop-again
+    returns-3)

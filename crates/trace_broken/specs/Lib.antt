@@ -1,0 +1,2 @@
+-- What is promised of where a premise was broken.
+pub mod Broken
