@@ -2,3 +2,4 @@
 pub mod Fresh
 pub mod Loop
 pub mod Ready
+pub mod Where

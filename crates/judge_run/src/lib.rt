@@ -23,6 +23,7 @@ ghost use Rattle.protocol.specs.Words.{settingAt, firstWordFits};
 ghost use Rattle.protocol.specs.Run.{runOf, runFirst};
 ghost use Rattle.sheet_state.specs.Arrays.{headRows};
 ghost use Rattle.judge_run.specs.Pass.{Passes, FreshBut, JudgedAt};
+ghost use Rattle.judge_run.specs.Where.{TellsBroken, TellsWhere};
 
 // 2⁶²: above any gain and any loss.
 const NEVER: i64 = 4611686018427387904;
@@ -43,10 +44,31 @@ fn judged_of(g: Setting, heads: &[[u32; 80]; 16], steady: bool, found: &[u8; 16]
     )
 }
 
-// "entry by entry 6 to 9": the first count entries of an accepted sheet, from fresh rows on.
-pub fn run_entries(sheet: &[u32], g: Setting, count: usize, heads: &mut [[u32; 80]; 16]) -> Judged
+// Whether a premise that is asked at entries is broken, by what was found at them; number 0 never is.
+fn is_broken(premise: u8, steady: bool, found: &[u8; 16]) -> bool
+    ensures { λ b. ⌜ TellsBroken premise steady (now (found .entry)) b ⌝ }
+{
+    if premise == 0 {
+        return false;
+    }
+    if premise == 2 {
+        return !steady;
+    }
+    found[(premise % 16) as usize] == 1
+}
+
+// "entry by entry 6 to 9": the first count entries of an accepted sheet, from fresh rows on, up to the first at which the premise
+// until is broken; its index is left in entries. With until 0, all of them.
+pub fn run_entries(
+    sheet: &[u32],
+    g: Setting,
+    count: usize,
+    until: u8,
+    heads: &mut [[u32; 80]; 16],
+    entries: &mut usize,
+) -> Judged
     requires { ⌜ (2 + 3 * count ≤ length (now sheet)) × (length (now sheet) ≤ 12290) × (firstWordFits (getD (now sheet) 0 0) ≡ true) × (g ≡ settingAt (now sheet)) × (now heads ≡ headRows g []) ⌝ }
-    ensures { λ j. ⌜ Passes g (runOf (now (sheet .entry)) count) j (now (heads .exit)) ⌝ }
+    ensures { λ j. ⌜ (until ≡ 0 → Passes g (runOf (now (sheet .entry)) count) j (now (heads .exit))) × TellsWhere g (runOf (now (sheet .entry)) count) until (now (entries .exit)) ⌝ }
 {
     let mut choices = [0u8; 512];
     let mut carried = [0u32; 512];
@@ -69,11 +91,16 @@ pub fn run_entries(sheet: &[u32], g: Setting, count: usize, heads: &mut [[u32; 8
                 take_entry(e, heads, &mut choices, &mut carried);
                 found[k] = 1;
                 steady = keeps_steady(g, e, &mut gains, &mut losses) & steady;
+                if is_broken(until, steady, &found) {
+                    *entries = i;
+                    return Judged::Broken(until);
+                }
                 time = e.time.0;
                 i += 1;
             }
         }
     }
+    *entries = i;
     judged_of(g, heads, steady, &found)
 }
 
@@ -101,10 +128,11 @@ pub fn run(sheet: &[u32], k: usize, heads: &mut [[u32; 80]; 16]) -> Judged
             let fresh = fresh_row(g.n as u32, g.f as u32, 0);
             *heads = [fresh; 16];
             number_heads(heads);
+            let mut entries: usize = 0;
             if k < all {
-                run_entries(sheet, g, k, heads)
+                run_entries(sheet, g, k, 0, heads, &mut entries)
             } else {
-                run_entries(sheet, g, all, heads)
+                run_entries(sheet, g, all, 0, heads, &mut entries)
             }
         }
     }

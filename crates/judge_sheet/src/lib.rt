@@ -57,7 +57,8 @@ pub fn replay_and_judge(sheet: &[u32], out: &mut [u32]) -> Report
             let fresh = fresh_row(g.n as u32, g.f as u32, 0);
             let mut heads = [fresh; 16];
             number_heads(&mut heads);
-            let judged = run_entries(sheet, g, entry_count(sheet), &mut heads);
+            let mut entries: usize = 0;
+            let judged = run_entries(sheet, g, entry_count(sheet), 0, &mut heads, &mut entries);
             let replayed = replay_of(judged, g.n, &heads, out);
             Report { replayed, judged }
         }

@@ -19,7 +19,7 @@ use Rattle.protocol.proofs.Tests.{absurd-bool, cases}
 use Rattle.print_text.specs.Written.{written}
 use Rattle.print_text.proofs.Texts.{Wrote, from-first}
 use Rattle.print_lines.proofs.Lengths.{refused-short, premises-short, broken-short}
-use Rattle.trace_broken.specs.Broken.{TellsWhere}
+use Rattle.judge_run.specs.Where.{TellsWhere}
 
 -- A SHEET'S LINE
 

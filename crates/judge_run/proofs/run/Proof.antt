@@ -1,3 +1,4 @@
+use mathlib.Core.Path.{refl}
 use Rattle.judge_run.proofs.Ready.{has-two, ready, run-passes, run-turned-back}
 use native.Mathlib.Omega.{arith}
 use borrow.Author.Needs.{needs}
@@ -32,19 +33,31 @@ number-heads-requires : tie.Need-number-heads-requires
 number-heads-requires c κs = search needs
 
 run-entries-requires : tie.Need-run-entries-requires
-run-entries-requires c κs = let all = c .before .before .before .before .before .before .before .before .entry-count .ensures in ready _ _ (c .before .before .before .before .before .before .before .before .before .before .before .before .sheet-verdict .ensures) (c .before .before .before .before .before .before .before .before .before .before .enum-told .given .1) _ (c .before .before .before .before .before .before .before .before .before .setting-at .ensures) _ (c .before .before .before .before .before .fresh-row .ensures) _ (c .before .before .number-heads .ensures) _ (omega (arith, all, c .before .if1 .taken))
+run-entries-requires c κs =
+    let s = c .before .before .before .before .before .before .before .before .before .before in
+    let all = c .before .before .before .before .before .before .before .before .before .entry-count .ensures in
+    ready _ _ (s .before .before .before .sheet-verdict .ensures) (s .before .enum-told .given .1) _ (s .setting-at .ensures) _ (c .before .before .before .before .before .before .fresh-row .ensures) _ (c .before .before .before .number-heads .ensures) _ (omega (arith, all, c .before .before .if1 .taken))
 
 run-entries-requires-2 : tie.Need-run-entries-requires-2
-run-entries-requires-2 c κs = let all = c .before .before .before .before .before .before .before .before .entry-count .ensures in ready _ _ (c .before .before .before .before .before .before .before .before .before .before .before .before .sheet-verdict .ensures) (c .before .before .before .before .before .before .before .before .before .before .enum-told .given .1) _ (c .before .before .before .before .before .before .before .before .before .setting-at .ensures) _ (c .before .before .before .before .before .fresh-row .ensures) _ (c .before .before .number-heads .ensures) _ (omega (arith, all))
+run-entries-requires-2 c κs =
+    let s = c .before .before .before .before .before .before .before .before .before .before in
+    let all = c .before .before .before .before .before .before .before .before .before .entry-count .ensures in
+    ready _ _ (s .before .before .before .sheet-verdict .ensures) (s .before .enum-told .given .1) _ (s .setting-at .ensures) _ (c .before .before .before .before .before .before .fresh-row .ensures) _ (c .before .before .before .number-heads .ensures) _ (omega (arith, all))
 
 returns : tie.Need-returns
 returns c = run-turned-back _ _ (c .before .before .before .sheet-verdict .ensures) _ _ (c .before .v .given .1) _
 
 returns-2 : tie.Need-returns-2
-returns-2 c = let all = c .before .before .before .before .before .before .before .before .before .entry-count .ensures in run-passes _ _ (c .before .before .before .before .before .before .before .before .before .before .before .before .before .sheet-verdict .ensures) (c .before .before .before .before .before .before .before .before .before .before .before .enum-told .given .1) _ (c .before .before .before .before .before .before .before .before .before .before .setting-at .ensures) _ _ (omega (arith, all, c .before .before .if1 .taken)) _ _ (c .run-entries .ensures)
+returns-2 c =
+    let s = c .before .before .before .before .before .before .before .before .before .before .before in
+    let all = c .before .before .before .before .before .before .before .before .before .before .entry-count .ensures in
+    run-passes _ _ (s .before .before .before .sheet-verdict .ensures) (s .before .enum-told .given .1) _ (s .setting-at .ensures) _ _ (omega (arith, all, c .before .before .before .if1 .taken)) _ _ (c .run-entries .ensures .0 refl)
 
 returns-3 : tie.Need-returns-3
-returns-3 c = let all = c .before .before .before .before .before .before .before .before .before .entry-count .ensures in run-passes _ _ (c .before .before .before .before .before .before .before .before .before .before .before .before .before .sheet-verdict .ensures) (c .before .before .before .before .before .before .before .before .before .before .before .enum-told .given .1) _ (c .before .before .before .before .before .before .before .before .before .before .setting-at .ensures) _ _ (omega (arith, all, c .before .before .if1 .left)) _ _ (c .run-entries2 .ensures)
+returns-3 c =
+    let s = c .before .before .before .before .before .before .before .before .before .before .before in
+    let all = c .before .before .before .before .before .before .before .before .before .before .entry-count .ensures in
+    run-passes _ _ (s .before .before .before .sheet-verdict .ensures) (s .before .enum-told .given .1) _ (s .setting-at .ensures) _ _ (omega (arith, all, c .before .before .before .if1 .left)) _ _ (c .run-entries2 .ensures .0 refl)
 
 pub run-spec : {M : Type 1} → statement M
 run-spec =

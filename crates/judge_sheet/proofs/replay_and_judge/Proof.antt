@@ -1,3 +1,4 @@
+use mathlib.Core.Path.{refl}
 use Rattle.judge_run.proofs.Ready.{has-two, ready}
 use Rattle.judge_sheet.proofs.Ends.{few-heads, turned-back, whole-run}
 use Rattle.judge_sheet.proofs.Claims.{reported}
@@ -34,10 +35,13 @@ entry-count-requires : tie.Need-entry-count-requires
 entry-count-requires c κs = has-two _ _ (c .before .before .before .before .before .before .before .before .sheet-verdict .ensures) (c .before .before .before .before .before .before .enum-told .given .1)
 
 run-entries-requires : tie.Need-run-entries-requires
-run-entries-requires c κs = let all = c .before .entry-count .ensures in ready _ _ (c .before .before .before .before .before .before .before .before .before .before .sheet-verdict .ensures) (c .before .before .before .before .before .before .before .before .enum-told .given .1) _ (c .before .before .before .before .before .before .before .setting-at .ensures) _ (c .before .before .before .before .fresh-row .ensures) _ (c .before .before .number-heads .ensures) _ (omega (arith, all))
+run-entries-requires c κs =
+    let s = c .before .before .before .before .before .before .before .before in
+    let all = c .before .before .entry-count .ensures in
+    ready _ _ (s .before .before .before .sheet-verdict .ensures) (s .before .enum-told .given .1) _ (s .setting-at .ensures) _ (c .before .before .before .before .before .fresh-row .ensures) _ (c .before .before .before .number-heads .ensures) _ (omega (arith, all))
 
 replay-of-requires : tie.Need-replay-of-requires
-replay-of-requires c κs = few-heads _ _ (c .before .before .before .before .before .before .before .before .before .before .before .before .before .sheet-verdict .ensures) (c .before .before .before .before .before .before .before .before .before .before .before .enum-told .given .1) _ (c .before .before .before .before .before .before .before .before .before .before .setting-at .ensures)
+replay-of-requires c κs = let s = c .before .before .before .before .before .before .before .before .before .before .before in few-heads _ _ (s .before .before .before .sheet-verdict .ensures) (s .before .enum-told .given .1) _ (s .setting-at .ensures)
 
 returns : tie.Need-returns
 returns c = reported _ _ _ _ (turned-back _ _ (c .before .before .before .sheet-verdict .ensures) _ _ (c .before .v .given .1))
@@ -46,7 +50,9 @@ same-length : tie.Need-same-length
 same-length c = search needs
 
 returns-2 : tie.Need-returns-2
-returns-2 c = reported _ _ _ _ (whole-run _ _ (c .before .before .before .before .before .before .before .before .before .before .before .before .before .before .before .before .sheet-verdict .ensures) (c .before .before .before .before .before .before .before .before .before .before .before .before .before .before .enum-told .given .1) _ (c .before .before .before .before .before .before .before .before .before .before .before .before .before .setting-at .ensures) _ (c .before .before .before .before .before .before .before .entry-count .ensures) _ _ (c .before .before .before .before .before .run-entries .ensures) _ _ _ (c .before .before .replay-of .ensures))
+returns-2 c =
+    let s = c .before .before .before .before .before .before .before .before .before .before .before .before .before .before in
+    reported _ _ _ _ (whole-run _ _ (s .before .before .before .sheet-verdict .ensures) (s .before .enum-told .given .1) _ (s .setting-at .ensures) _ (c .before .before .before .before .before .before .before .before .entry-count .ensures) _ _ (c .before .before .before .before .before .run-entries .ensures .0 refl) _ _ _ (c .before .before .replay-of .ensures))
 
 pub replay-and-judge-spec : {M : Type 1} → statement M
 replay-and-judge-spec =

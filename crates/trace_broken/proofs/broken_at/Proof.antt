@@ -1,6 +1,6 @@
 -- `broken_at`: the pass over the entries of a sheet that passes causes 1 to 4.
 use Rattle.judge_run.proofs.Ready.{has-two, ready}
-use Rattle.trace_broken.proofs.Where.{of-sheet, turned-back}
+use Rattle.judge_run.proofs.Where.{of-sheet, turned-back}
 use native.Mathlib.Omega.{arith}
 use borrow.Author.Needs.{needs}
 use Rattle.trace_broken.proofs.broken_at.Statement.{statement}
@@ -33,19 +33,19 @@ fresh-row-requires c κs = search needs
 number-heads-requires : tie.Need-number-heads-requires
 number-heads-requires c κs = search needs
 
-kept-entries-requires : tie.Need-kept-entries-requires
-kept-entries-requires c κs =
-    let s = c .before .before .before .before .before .before .before in
-    let all = c .before .before .before .before .before .before .entry-count .ensures in
-    ready _ _ (s .before .before .before .sheet-verdict .ensures) (s .before .enum-told2 .given .1) _ (s .setting-at .ensures) _ (c .before .before .before .fresh-row .ensures) _ (c .before .number-heads .ensures) _ (omega (arith, all))
+run-entries-requires : tie.Need-run-entries-requires
+run-entries-requires c κs =
+    let s = c .before .before .before .before .before .before .before .before in
+    let all = c .before .before .before .before .before .before .before .entry-count .ensures in
+    ready _ _ (s .before .before .before .sheet-verdict .ensures) (s .before .enum-told2 .given .1) _ (s .setting-at .ensures) _ (c .before .before .before .before .fresh-row .ensures) _ (c .before .before .number-heads .ensures) _ (omega (arith, all))
 
 returns : tie.Need-returns
 returns c = turned-back _ _ _ (c .before .before .sheet-verdict .ensures) _ (c .enum-told .given .1) _
 
 returns-2 : tie.Need-returns-2
 returns-2 c =
-    let s = c .before .before .before .before .before .before .before .before in
-    of-sheet _ _ _ (s .before .before .before .sheet-verdict .ensures) (s .before .enum-told2 .given .1) _ _ _ (s .setting-at .ensures) (c .before .before .before .before .before .before .before .entry-count .ensures) (c .kept-entries .ensures)
+    let s = c .before .before .before .before .before .before .before .before .before in
+    of-sheet _ _ _ (s .before .before .before .sheet-verdict .ensures) (s .before .enum-told2 .given .1) _ _ _ (s .setting-at .ensures) (c .before .before .before .before .before .before .before .before .entry-count .ensures) (c .run-entries .ensures .1)
 
 pub broken-at-spec : {M : Type 1} → statement M
 broken-at-spec =
@@ -60,6 +60,6 @@ broken-at-spec =
     cast-fresh-row-2
     fresh-row-requires
     number-heads-requires
-    kept-entries-requires
+    run-entries-requires
     returns
     returns-2)

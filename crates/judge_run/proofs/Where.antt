@@ -1,6 +1,6 @@
 -- Where a premise is broken, entry by entry: what was found tells whether it is broken after an entry (`TellsBroken`), and the first
 -- entry after which it is stays that of every longer run (`TellsWhere`).
--- Main results: `by-steady`, `by-found`; `before-first`, `one-on`, `here`, `all-kept`, `refused-anyway`; `of-sheet`, `turned-back`.
+-- Main results: `of-no-premise`, `by-steady`, `by-found`; `before-first`, `one-on`, `here`, `all-kept`, `refused-anyway`; `of-sheet`, `turned-back`.
 use mathlib.Core.Path.{_≡_, refl, sym, _∙_, ap, subst}
 use mathlib.Core.Bool.{Bool, true, false, not}
 use mathlib.Core.List.{List, [], _∷_}
@@ -21,20 +21,24 @@ use Rattle.protocol.specs.Premises.{premise2, premise3, premise5, premise6, pre
 use Rattle.protocol.proofs.Tests.{absurd-bool, not-true, not-false}
 use Rattle.protocol.proofs.Broken.{prior, run-length, kept-on, fails-now, stays-failed}
 use Rattle.judge_premises_5_to_8.specs.Closes.{flag, foundOf, Found}
-use Rattle.trace_broken.specs.Broken.{IsAskedAtEntries, TellsBroken, TellsWhere}
+use Rattle.judge_run.specs.Where.{IsAskedAtEntries, TellsBroken, TellsWhere}
 
 -- BY WHAT WAS FOUND
 
+pub of-no-premise : (i : ℕ) (steady : Bool) (found : List ℕ) → i ≡ 0 → TellsBroken i steady found false
+of-no-premise i steady found none = record { broken-is = λ g s is f asked. absurd (let l = asked .0 in omega arith); never = λ _. refl }
+
 pub by-steady : (i : ℕ) (steady : Bool) (found : List ℕ) → i ≡ 2 → TellsBroken i steady found (not steady)
-by-steady i steady found two g s is f asked = rw two (ap not is)
+by-steady i steady found two = record { broken-is = λ g s is f asked. rw two (ap not is); never = λ none. absurd (omega arith) }
 
 flag-set : (b : Bool) → eqb (flag (not b)) 1 ≡ not b
 flag-set true = refl
 flag-set false = refl
 
-pub by-found : (i : ℕ) (steady : Bool) (found : List ℕ) → i ≢ 2 → TellsBroken i steady found (eqb (getD found (i % 16) 0) 1)
+found-tells : (i : ℕ) (found : List ℕ) → i ≢ 2 → (g : Setting) (s : History) → Found g s found → IsAskedAtEntries i
+    → eqb (getD found (i % 16) 0) 1 ≡ not (getD (premises g s) (i - 1) true)
 unfolding premise6 premise8
-by-found i steady found other g s is f = go i other
+found-tells i found other g s f = go i other
   where
     at : (m : ℕ) → getD found m 0 ≡ getD (foundOf g s (getD found 0 0)) m 0
     at m = ap (λ (l : List ℕ). getD l m 0) f
@@ -53,6 +57,10 @@ by-found i steady found other g s is f = go i other
     go (suc (suc (suc (suc (suc (suc (suc zero))))))) d a = told 7 (premise7 g s) refl
     go (suc (suc (suc (suc (suc (suc (suc (suc zero)))))))) d a = told 8 (premise8 g s) refl
     go (suc (suc (suc (suc (suc (suc (suc (suc (suc i))))))))) d a = absurd (let l = a .1 in omega arith)
+
+pub by-found : (i : ℕ) (steady : Bool) (found : List ℕ) → i ≢ 0 → i ≢ 2 → TellsBroken i steady found (eqb (getD found (i % 16) 0) 1)
+by-found i steady found some other =
+    record { broken-is = λ g s is f asked. found-tells i found other g s f asked; never = λ none. absurd (some none) }
 
 -- ENTRY BY ENTRY
 
@@ -81,7 +89,7 @@ module _ (ws : List ℕ) (g : Setting) (p : ℕ) where
     unfolding brokenAt
     one-on fine h e asked =
         let q = prior ws i s (at-suc now) in
-        let holds : test (q .event ∷ q .past) ≡ true = subst (λ (h : History). test h ≡ true) (q .history-is) (not-false (sym (tells g s steady-is found-is asked) ∙ fine)) in
+        let holds : test (q .event ∷ q .past) ≡ true = subst (λ (h : History). test h ≡ true) (q .history-is) (not-false (sym (tells .broken-is g s steady-is found-is asked) ∙ fine)) in
         let kept = kept-on test (q .event) (q .past) (kept-before (q .past) (q .past-is) asked) holds in
         let long = run-length ws i (q .past) (q .past-is) in
         let here : i + 1 ≡ keptUpTo test (q .event ∷ q .past) = omega arith in
@@ -91,7 +99,7 @@ module _ (ws : List ℕ) (g : Setting) (p : ℕ) where
     unfolding brokenAt
     here broken count lt h e asked =
         let q = prior ws i s (at-suc now) in
-        let fails : test (q .event ∷ q .past) ≡ false = subst (λ (h : History). test h ≡ false) (q .history-is) (not-true (sym (tells g s steady-is found-is asked) ∙ broken)) in
+        let fails : test (q .event ∷ q .past) ≡ false = subst (λ (h : History). test h ≡ false) (q .history-is) (not-true (sym (tells .broken-is g s steady-is found-is asked) ∙ broken)) in
         let failed = fails-now test (q .event) (q .past) (kept-before (q .past) (q .past-is) asked) fails in
         let long = run-length ws i (q .past) (q .past-is) in
         let up-to : keptUpTo test s ≡ i = ap (keptUpTo test) (q .history-is) ∙ failed ∙ long in

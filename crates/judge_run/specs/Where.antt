@@ -13,10 +13,10 @@ use Rattle.judge_premises_5_to_8.specs.Closes.{Found}
 abbrev pub IsAskedAtEntries : ℕ → Type 0
 IsAskedAtEntries i = (1 < i) × (i < 9) × (isAskedAtEnd i ≡ false)
 
--- the premise is broken, by what was found at the entries so far
-abbrev pub TellsBroken : ℕ → Bool → List ℕ → Bool → Type 0
-TellsBroken i steady found b =
-    (g : Setting) (s : History) → steady ≡ premise2 g s → Found g s found → IsAskedAtEntries i → b ≡ not (getD (premises g s) (i - 1) true)
+-- the premise is broken, by what was found at the entries so far; number 0 is of no premise and never broken
+pub record TellsBroken (i : ℕ) (steady : Bool) (found : List ℕ) (b : Bool) : Type 0 where
+  pub broken-is : (g : Setting) (s : History) → steady ≡ premise2 g s → Found g s found → IsAskedAtEntries i → b ≡ not (getD (premises g s) (i - 1) true)
+  pub never : i ≡ 0 → b ≡ false
 
 -- k is the entry at which the premise was broken, if the run is not refused
 abbrev pub TellsWhere : Setting → Run → ℕ → ℕ → Type 0

@@ -1,2 +1,0 @@
--- What is promised of where a premise was broken.
-pub mod Broken
