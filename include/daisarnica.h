@@ -81,7 +81,7 @@ typedef struct {
     uint32_t start;      /* the candidate's start reading */
 } daisarnica_ending;
 
-/* The structs are read and written by place, without gaps. */
+/* The structs are read and written field after field, without gaps. */
 typedef char daisarnica_head_fits[sizeof(daisarnica_head) == DAISARNICA_HEAD_SIZE ? 1 : -1];
 typedef char daisarnica_input_fits[sizeof(daisarnica_input) == 28 ? 1 : -1];
 typedef char daisarnica_frame_fits[sizeof(daisarnica_frame) == 20 ? 1 : -1];

@@ -1,6 +1,6 @@
 /* daisarnica_sheet.h: a whole run sheet, replayed and judged, for programs written in C.
  *
- * The call takes no other memory than what is lent to it and some 78 KB of stack, has no state between calls, and
+ * The call takes no other memory than what is lent to it and some 10 KB of stack, has no state between calls, and
  * always returns. It needs memcpy and memset and nothing else.
  *
  * Every sheet has an answer: what is against the rules is turned back with its cause and its place, and the result

@@ -102,7 +102,7 @@ pub fn record_in(head: &Head) -> Option<Record> {
 }
 
 /// Numbers at, below and above the ends of what may stand at an index of the
-/// memory of a head with this record, and such as a narrower place would cut.
+/// memory of a head with this record, and such as fewer bits would cut.
 pub fn edges(index: usize, record: &Record) -> [u32; 9] {
     let n = record.n;
     let top = match index {

@@ -56,8 +56,8 @@ fn check_kept(words: &[u32], run: &Run, looks: &[Look]) -> Result<Checked, Strin
     let mut results = Vec::new();
     for &head in &correct {
         let record = &run.records[head as usize];
-        let place = 3 * head as usize;
-        let result = HeadResult::read(&buffer[place..place + 3]);
+        let first = 3 * head as usize;
+        let result = HeadResult::read(&buffer[first..first + 3]);
         if record.outcome() != 2 || result.outcome != 2 {
             return Err(format!("head {head} has outcome {}", record.outcome()));
         }
@@ -110,9 +110,9 @@ fn check_bound(run: &Run, results: &[HeadResult], looks: &[Look]) -> Result<Chec
         let clock = i64::from(look.reading.0) + result.correction();
         shown.push((look.time, look.head, clock, since));
     }
-    for (place, x) in shown.iter().enumerate() {
+    for (index, x) in shown.iter().enumerate() {
         // Looks are in the order of real time.
-        for y in shown[place + 1..].iter().take_while(|y| y.0 == x.0) {
+        for y in shown[index + 1..].iter().take_while(|y| y.0 == x.0) {
             // "D is the larger less the smaller."
             let d = (x.2 - y.2).abs();
             let bound = 1_000_000 * (i64::from(run.settings.tightness) + 2)

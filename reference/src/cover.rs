@@ -366,12 +366,12 @@ fn lone_part(run: &Run, premise: u32) -> Option<&'static str> {
 /// closes.
 fn sends_late(run: &Run, delivery: u32, close: u32) -> bool {
     let is_correct = |i: &usize| run.settings.is_correct(run.entries[*i].head);
-    let places = |action: u32| {
-        let places = (0..run.entries.len()).filter(is_correct);
-        places.filter(move |&i| run.entries[i].action == action)
+    let indices = |action: u32| {
+        let indices = (0..run.entries.len()).filter(is_correct);
+        indices.filter(move |&i| run.entries[i].action == action)
     };
-    let (first, last) = (places(close).min(), places(close).max());
-    places(delivery).any(|i| Some(i) > first && Some(i) < last && run.frames[i].is_some())
+    let (first, last) = (indices(close).min(), indices(close).max());
+    indices(delivery).any(|i| Some(i) > first && Some(i) < last && run.frames[i].is_some())
 }
 
 /// Whether a sheet is what it was made for.

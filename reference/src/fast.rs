@@ -134,7 +134,7 @@ impl Head {
 }
 
 /// What the judge keeps in its pass. Sets of heads are bit sets.
-struct Watch {
+struct Judge {
     settings: Settings,
     correct: u16,
     /// Bit k: premise k is broken.
@@ -156,9 +156,9 @@ struct Watch {
     late_adjust: bool,
 }
 
-impl Watch {
-    fn new(settings: Settings) -> Watch {
-        Watch {
+impl Judge {
+    fn new(settings: Settings) -> Judge {
+        Judge {
             settings,
             correct: settings.correct as u16,
             broken: 0,
@@ -289,7 +289,7 @@ pub fn answer(words: &[u32], buffer: Option<usize>) -> Result<(Vec<HeadResult>, 
     let settings = check_front(words, buffer)?;
     let n = settings.n;
     let mut heads = [FRESH; MAX_HEADS];
-    let mut watch = Watch::new(settings);
+    let mut judge = Judge::new(settings);
     let mut now = 0;
     for (index, entry) in words[2..].chunks_exact(3).enumerate() {
         let refused = |number| {
@@ -340,7 +340,7 @@ pub fn answer(words: &[u32], buffer: Option<usize>) -> Result<(Vec<HeadResult>, 
         if closed {
             return refused(9);
         }
-        watch.entry(&heads, time, reading, action, head, sender, serial);
+        judge.entry(&heads, time, reading, action, head, sender, serial);
         now = time;
         let vote = from.votes.frames[serial];
         let adjust = from.adjusts.frames[serial];
@@ -387,7 +387,7 @@ pub fn answer(words: &[u32], buffer: Option<usize>) -> Result<(Vec<HeadResult>, 
         }
     }
     let results = (0..n as usize).map(|own| heads[own].result(own)).collect();
-    Ok((results, watch.verdict()))
+    Ok((results, judge.verdict()))
 }
 
 /// What the program prints for the bytes on its standard input.

@@ -363,7 +363,7 @@ fn edit(random: &mut Random, words: &mut Vec<u32>) {
             words.truncate(MAX_WORDS);
         }
         6 => {
-            // Two neighbours change places and keep their real times.
+            // Two neighbours are exchanged, but for their real times.
             if at + 6 <= words.len() {
                 words.swap(at + 1, at + 4);
                 words.swap(at + 2, at + 5);

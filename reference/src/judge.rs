@@ -62,8 +62,8 @@ fn enough_correct(run: &Run) -> bool {
 fn clocks_steady(run: &Run) -> bool {
     for head in run.settings.correct_heads() {
         let own: Vec<&Entry> = run.entries.iter().filter(|e| e.head == head).collect();
-        for (place, earlier) in own.iter().enumerate() {
-            for later in &own[place + 1..] {
+        for (index, earlier) in own.iter().enumerate() {
+            for later in &own[index + 1..] {
                 let (s, t) = (i64::from(earlier.time.0), i64::from(later.time.0));
                 let (a, b) = (i64::from(earlier.reading.0), i64::from(later.reading.0));
                 let drift = i64::from(run.settings.drift);
@@ -81,18 +81,18 @@ fn delivers_start(entry: &Entry, head: u32, sender: u32) -> bool {
     entry.action == 2 && entry.head == head && entry.sender == sender
 }
 
-/// The places at which a start is confirmed "by any head".
-fn confirm_places(run: &Run) -> Vec<usize> {
-    let places = 0..run.entries.len();
-    places.filter(|&i| run.entries[i].action == 3).collect()
+/// The indices of the entries that confirm a start, "by any head".
+fn confirm_indices(run: &Run) -> Vec<usize> {
+    let indices = 0..run.entries.len();
+    indices.filter(|&i| run.entries[i].action == 3).collect()
 }
 
 /// "3. A start confirmed by any head was delivered earlier to every correct
 /// head".
 fn confirmed_delivered(run: &Run) -> bool {
-    for place in confirm_places(run) {
-        let sender = run.entries[place].head;
-        let earlier = &run.entries[..place];
+    for index in confirm_indices(run) {
+        let sender = run.entries[index].head;
+        let earlier = &run.entries[..index];
         for head in run.settings.correct_heads() {
             if !earlier.iter().any(|e| delivers_start(e, head, sender)) {
                 return false;
@@ -104,9 +104,9 @@ fn confirmed_delivered(run: &Run) -> bool {
 
 /// "their last deliveries lie within the tightness", in real time.
 fn confirmed_within_tightness(run: &Run) -> bool {
-    for place in confirm_places(run) {
-        let sender = run.entries[place].head;
-        let earlier = &run.entries[..place];
+    for index in confirm_indices(run) {
+        let sender = run.entries[index].head;
+        let earlier = &run.entries[..index];
         let mut last_deliveries = Vec::new();
         for head in run.settings.correct_heads() {
             let last = earlier.iter().rfind(|e| delivers_start(e, head, sender));
@@ -125,9 +125,9 @@ fn confirmed_within_tightness(run: &Run) -> bool {
 
 /// "and none reaches a correct head later."
 fn confirmed_not_later(run: &Run) -> bool {
-    for place in confirm_places(run) {
-        let sender = run.entries[place].head;
-        let later = &run.entries[place + 1..];
+    for index in confirm_indices(run) {
+        let sender = run.entries[index].head;
+        let later = &run.entries[index + 1..];
         for head in run.settings.correct_heads() {
             if later.iter().any(|e| delivers_start(e, head, sender)) {
                 return false;
@@ -148,8 +148,8 @@ fn all_take(run: &Run, entries: &[Entry], action: u32) -> bool {
     correct.iter().all(|&head| takes(entries, head, action))
 }
 
-/// The places of the correct heads' entries with this action.
-fn correct_places(run: &Run, action: u32) -> Vec<usize> {
+/// The indices of the correct heads' entries with this action.
+fn correct_indices(run: &Run, action: u32) -> Vec<usize> {
     (0..run.entries.len())
         .filter(|&i| run.entries[i].action == action)
         .filter(|&i| run.settings.is_correct(run.entries[i].head))
@@ -159,7 +159,7 @@ fn correct_places(run: &Run, action: u32) -> Vec<usize> {
 /// The entries before the first correct close: of votes (`close` 6) or adjusts
 /// (`close` 9). None without such a close: then nothing is asked.
 fn before_close(run: &Run, close: u32) -> Option<&[Entry]> {
-    let first = *correct_places(run, close).first()?;
+    let first = *correct_indices(run, close).first()?;
     Some(&run.entries[..first])
 }
 
@@ -238,14 +238,14 @@ fn frames_reached(run: &Run, delivery: u32, close: u32) -> bool {
 /// head." (`delivery` 5, `close` 6) "8. As 6, for adjusts and adjust closes."
 /// (`delivery` 8, `close` 9)
 fn no_delivery_between(run: &Run, delivery: u32, close: u32) -> bool {
-    let closes = correct_places(run, close);
+    let closes = correct_indices(run, close);
     let (Some(&first), Some(&last)) = (closes.first(), closes.last()) else {
         return true;
     };
-    let deliveries = correct_places(run, delivery);
+    let deliveries = correct_indices(run, delivery);
     !deliveries
         .iter()
-        .any(|&place| first < place && place < last)
+        .any(|&index| first < index && index < last)
 }
 
 /// "7. Before the first correct adjust close, every correct head took 7".

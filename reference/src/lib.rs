@@ -2,6 +2,7 @@
 //! round on the CAN bus"), written from its text alone. Clarity comes before
 //! speed, except in [`fast`], which is a second form of replay and judge.
 
+pub mod ask;
 #[cfg(feature = "board")]
 pub mod board;
 pub mod claim;
@@ -19,4 +20,5 @@ pub mod sheet;
 #[cfg(feature = "sheets")]
 pub mod sheets;
 pub mod step;
+pub mod trace;
 pub mod words;

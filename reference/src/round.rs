@@ -316,7 +316,8 @@ pub fn round(random: &mut Random, breaks: u32) -> Option<(Settings, Vec<Entry>)>
             .any(|&c| loss[x as usize][c as usize] == 4);
         wishes[x as usize].confirm &= !cut_off || random.chance(1, 2);
     }
-    // For premises 6 and 8, a faulty head 0 is not heard of before they break.
+    // For premise 6 (8), no vote (adjust) of a faulty head 0 reaches a correct head
+    // before it breaks.
     let silent = matches!(breaks, 6 | 8) && !settings.is_correct(0);
     if silent {
         left[0] = u32::MAX;

@@ -15,7 +15,7 @@ pub struct Input {
     pub carried_head: u32,
     /// The reading (action 5) or the adjustment (action 8) that is carried.
     pub carried_reading: u32,
-    /// The mark "none" in place of the reading of a vote.
+    /// The mark "none", for a vote without a reading.
     pub none: bool,
 }
 

@@ -6,7 +6,7 @@ use data_values::cause_number;
 use head_by_value::counter_reading;
 use head_causes::row_verdict;
 use head_ranges::row_in_range;
-use head_result::result_of;
+use head_result::result_numbers;
 use head_row::fresh_row;
 use head_step::effect;
 use numbers::correction_of;
@@ -72,7 +72,7 @@ pub extern "C" fn daisarnica_result(head: &[u32; 80], result: &mut [u32; 5]) -> 
 {
     row_length(*head);
     if row_in_range(head) {
-        *result = result_of(head);
+        *result = result_numbers(head);
         0
     } else {
         *result = [0, 0, 0, 0, 0];
@@ -87,7 +87,7 @@ pub extern "C" fn daisarnica_correction(head: &[u32; 80]) -> i64
 {
     row_length(*head);
     if row_in_range(head) {
-        correction_of(result_of(head))
+        correction_of(result_numbers(head))
     } else {
         0
     }

@@ -1,5 +1,5 @@
 -- Premise 4 by the marks in the heads' rows.
--- Main results: `ended-more`, `not-ended`, `all-ended-is`.
+-- Main results: `ended-more`, `not-ended`, `premise-4-is`.
 use mathlib.Core.Path.{_≡_, refl, _∙_, ap, ap₂}
 use mathlib.Core.Bool.{Bool, true, false, not, _&&_}
 use mathlib.Core.List.{List, []}
@@ -61,8 +61,8 @@ module _ {ws : List ℕ} {i : ℕ} {s : History} {heads : List (List ℕ)} (now 
       ∙ ap₂ _&&_ (has-vote-closed (recordOf g s q) ∙ closed-took g votes v q)
       (ap₂ _&&_ (has-adjust-turn (recordOf g s q) ∙ adjust-turn-took g v q) (has-adjust-closed (recordOf g s q) ∙ closed-took g adjusts v q))
 
-  pub all-ended-is : allBelow (g .n) (isEnded g heads) ≡ premise4 g s
+  pub premise-4-is : allBelow (g .n) (isEnded g heads) ≡ premise4 g s
   unfolding premise4
-  all-ended-is =
+  premise-4-is =
       all-same (g .n) (isEnded g heads) (λ q. isCorrect g q ⇒ (took 6 q s && (took 7 q s && took 9 q s)))
       (λ q l. ap (λ (b : Bool). isCorrect g q ⇒ b) (ended-took q (let few = few-heads now is in omega arith)))

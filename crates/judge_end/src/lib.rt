@@ -34,7 +34,7 @@ fn correct_heads(g: Setting) -> u8
 }
 
 // "1. At least n − f heads are correct"
-pub fn enough_correct(g: Setting) -> bool
+pub fn premise_1(g: Setting) -> bool
     ensures { λ b. ⌜ b ≡ premise1 g ⌝ }
 {
     g.n as u16 <= correct_heads(g) as u16 + g.f as u16
@@ -48,7 +48,7 @@ fn has_ended(m: u32) -> bool
 }
 
 // "4. Every correct head takes actions 6, 7 and 9"
-pub fn all_ended(g: Setting, heads: &[[u32; 80]; 16]) -> bool
+pub fn premise_4(g: Setting, heads: &[[u32; 80]; 16]) -> bool
     ensures { λ b. ⌜ ((ws : List ℕ) (i : ℕ) (s : History) → Stands ws i s (now (heads .entry)) → g ≡ settingAt ws → b ≡ premise4 g s) ⌝ }
 {
     let mut q: u8 = 0;

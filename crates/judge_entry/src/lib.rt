@@ -24,7 +24,7 @@ ghost use Rattle.sheet_state.specs.Arrays.{answerAt, eventAt, Stands};
 ghost use Rattle.judge_entry.specs.State.{JudgeState, DriftState};
 
 // Whether an entry keeps premise 2 with those before it.
-pub fn keeps_steady(g: Setting, e: Entry, gains: &mut [i64; 16], losses: &mut [i64; 16]) -> bool
+pub fn keeps_premise_2(g: Setting, e: Entry, gains: &mut [i64; 16], losses: &mut [i64; 16]) -> bool
     ensures { λ b. ⌜ ((ws : List ℕ) (i : ℕ) (s : History) (heads : List (List ℕ)) → Stands ws i s heads → g ≡ settingAt ws → e ≡ entryAt ws i → answerAt ws i s .verdict ≡ Accepted
         → DriftState g s (now (gains .entry)) (now (losses .entry))
         → DriftState g (eventAt ws i s ∷ s) (now (gains .exit)) (now (losses .exit)) × ((b && premise2 g s) ≡ premise2 g (eventAt ws i s ∷ s))) ⌝ }

@@ -1,10 +1,10 @@
 // One pass over a sheet's entries: the run of the heads, and what the premises say of it.
 use head_row::fresh_row;
-use judge_end::all_ended;
-use judge_end::enough_correct;
 use judge_end::first_broken;
+use judge_end::premise_1;
+use judge_end::premise_4;
 use judge_entry::breaks;
-use judge_entry::keeps_steady;
+use judge_entry::keeps_premise_2;
 use protocol::Judged;
 use protocol::Setting;
 use protocol::Verdict;
@@ -33,10 +33,10 @@ fn judged_of(g: Setting, heads: &[[u32; 80]; 16], steady: bool, found: &[u8; 16]
     ensures { λ j. ⌜ JudgedAt g (now (heads .entry)) steady (now (found .entry)) j ⌝ }
 {
     first_broken(
-        enough_correct(g),
+        premise_1(g),
         steady,
         found[3] == 0,
-        all_ended(g, heads),
+        premise_4(g, heads),
         found[5] == 0,
         found[6] == 0,
         found[7] == 0,
@@ -90,7 +90,7 @@ pub fn run_entries(
                 let k = breaks(g, e, heads, &mut received, &mut times, &mut found);
                 take_entry(e, heads, &mut choices, &mut carried);
                 found[k] = 1;
-                steady = keeps_steady(g, e, &mut gains, &mut losses) & steady;
+                steady = keeps_premise_2(g, e, &mut gains, &mut losses) & steady;
                 if is_broken(until, steady, &found) {
                     *entries = i;
                     return Judged::Broken(until);

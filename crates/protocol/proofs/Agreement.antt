@@ -1,6 +1,6 @@
 -- In a round every correct head gets a candidate, knows its start reading and has a vote reading of its own, and gets an
--- adjuster; whoever has an adjuster has the adjustment that this adjuster computed.
--- Main results: `has-candidate` (a), `start-known` and `own-reading` (d), `has-adjuster` and `one-adjustment` (e).
+-- adjuster. (That whoever has an adjuster has the adjustment that this adjuster computed: Adjustments.antt.)
+-- Main results: `has-candidate` (a), `start-known` and `own-reading` (d), `has-adjuster` (e).
 use mathlib.Core.Path.{_≡_, refl, sym, _∙_, ap, subst}
 use mathlib.Core.Bool.{Bool, true, false, cond, not, _&&_}
 use mathlib.Core.List.{List, _∷_}

@@ -1,6 +1,6 @@
 -- THE THIRD POINT: a sheet of any words that is accepted and keeps all eight premises ends with every correct head having a
 -- clock, all with the same candidate, adjuster and adjustment, and the bound on the distance of corrected clocks.
--- Main results: `third-point` (of the records), `third-point-in-words` (of the replay's result words).
+-- Main result: `third-point`, of the records; of the result words see ResultWords.antt.
 use mathlib.Core.Path.{_≡_, refl, sym, _∙_, ap, subst}
 use mathlib.Core.Bool.{true, false}
 use mathlib.Core.List.{List, _∷_}

@@ -1,5 +1,5 @@
 // The heads' result words, written from their rows into a lent buffer and read back: document 01, "Result words".
-use head_result::result_of;
+use head_result::result_numbers;
 ghost use mathlib.Core.Path.{_≡_};
 ghost use Prim.Native.Nat.{_+_, _*_, _%_, _^_, _≤_, _<_};
 ghost use lib.ListN.{length};
@@ -39,7 +39,7 @@ fn head_words(q: u8, row: &[u32; 80]) -> HeadWords
     requires { ⌜ q < 16 ⌝ }
     ensures { λ w. ⌜ AreWords q (now (row .entry)) w ⌝ }
 {
-    let x = result_of(row);
+    let x = result_numbers(row);
     HeadWords {
         outcome: word_6(x[0], q as u32, x[1], x[2]),
         adjustment: KIND_7 + x[3] % TIMES,

@@ -1,5 +1,5 @@
 // What the program trace shows of an entry: the entry, and where its head stands after it.
-use head_result::result_of;
+use head_result::result_numbers;
 use head_row::fresh_row;
 use judge_run::number_heads;
 use protocol::Cause;
@@ -56,7 +56,7 @@ fn line_of(e: Entry, row: &[u32; 80]) -> Line
     let candidate = number_in(row[2]);
     let adjuster = number_in(row[4]);
     let adjustment = Reading(row[6]);
-    let x = result_of(row);
+    let x = result_numbers(row);
     Line {
         time,
         head: e.head,

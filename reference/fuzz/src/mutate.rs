@@ -36,7 +36,7 @@ fn change_settings(random: &mut Random, words: &mut [u32]) {
     }
 }
 
-/// One field of the entry at a place.
+/// One field of an entry.
 fn change_field(random: &mut Random, words: &mut [u32], at: usize) {
     let n = u64::from(words[0] >> 20 & 0xFF).clamp(1, 16);
     let third = words[at + 2];
@@ -65,7 +65,7 @@ fn move_on(random: &mut Random, words: &mut [u32], at: usize) {
     }
 }
 
-/// A new entry before a place, at the time and reading that its head has.
+/// A new entry before another, at the time and reading that its head has.
 fn insert(random: &mut Random, words: &mut Vec<u32>, at: usize) {
     let n = u64::from(words[0] >> 20 & 0xFF).clamp(1, 16);
     let (action, head) = (random.below(10) as u32, random.below(n) as u32);
@@ -84,7 +84,7 @@ fn insert(random: &mut Random, words: &mut Vec<u32>, at: usize) {
     words.splice(at..at, [time, reading, third]);
 }
 
-/// An entry from one place comes once more, before another place.
+/// An entry comes once more, before another.
 fn double(words: &mut Vec<u32>, from: usize, at: usize) {
     let mut entry = [words[from], words[from + 1], words[from + 2]];
     if at > 2 {
@@ -115,7 +115,7 @@ fn change(random: &mut Random, words: &mut Vec<u32>) {
         1 => drop(words.drain(at..at + 3)),
         2 => double(words, at, other),
         3 | 4 => {
-            // Two entries change places and keep their real times.
+            // Two entries are exchanged and keep their real times.
             words.swap(at + 1, other + 1);
             words.swap(at + 2, other + 2);
         }

@@ -50,11 +50,11 @@ fn asked(chunk: &[u8], n: u32, last: u32) -> Asked {
 /// One number of the record's memory is changed.
 fn damage(both: &Both, chunk: &[u8]) -> Both {
     let mut head = both.head;
-    let place = chunk[1] as usize % head.len();
-    head[place] = match (chunk[2] & 3, &both.record) {
-        (0, _) => head[place] ^ 1 << (chunk[3] & 31),
+    let index = chunk[1] as usize % head.len();
+    head[index] = match (chunk[2] & 3, &both.record) {
+        (0, _) => head[index] ^ 1 << (chunk[3] & 31),
         (1, _) => word(&chunk[8..]),
-        (_, Some(record)) => edges(place, record)[chunk[3] as usize % 9],
+        (_, Some(record)) => edges(index, record)[chunk[3] as usize % 9],
         (_, None) => chunk[3].into(),
     };
     both.damaged(head)

@@ -22,8 +22,8 @@ struct Tally {
     /// Damaged records that were refused, and that were still in their ranges.
     refused: u64,
     taken: u64,
-    /// By place of the record's memory, damage there alone: refused, and taken.
-    places: BTreeMap<usize, [u64; 2]>,
+    /// By index in the record's memory, damage there alone: refused, and taken.
+    alone: BTreeMap<usize, [u64; 2]>,
 }
 
 /// A number that is mostly in its range.
@@ -75,21 +75,21 @@ fn draw(random: &mut Random, record: &Record) -> Asked {
 }
 
 /// A copy of the head with one to three numbers of its memory changed, and the
-/// place if it is one.
+/// index if it is one.
 fn damage(random: &mut Random, both: &Both, record: &Record) -> (Both, Option<usize>) {
     let mut head = both.head;
     let changes = random.pick(&[1, 1, 1, 2, 3]);
-    let mut place = 0;
+    let mut index = 0;
     for _ in 0..changes {
-        place = random.index(80);
-        head[place] = match random.below(6) {
-            0 => head[place] ^ 1 << random.below(32),
+        index = random.index(80);
+        head[index] = match random.below(6) {
+            0 => head[index] ^ 1 << random.below(32),
             1 => (random.draw() as u32) >> random.below(32),
-            2 => head[place].wrapping_add(random.pick(&[1, u32::MAX, 256, 1 << 28])),
-            _ => random.pick(&edges(place, record)),
+            2 => head[index].wrapping_add(random.pick(&[1, u32::MAX, 256, 1 << 28])),
+            _ => random.pick(&edges(index, record)),
         };
     }
-    (both.damaged(head), (changes == 1).then_some(place))
+    (both.damaged(head), (changes == 1).then_some(index))
 }
 
 /// One action at a damaged copy of the head, from which the sequence goes on at
@@ -100,7 +100,7 @@ fn act_damaged(
     record: &Record,
     tally: &mut Tally,
 ) -> Result<u32, String> {
-    let (mut other, place) = damage(random, both, record);
+    let (mut other, index) = damage(random, both, record);
     let changed = other.head != both.head;
     let asked = draw(random, other.record.as_ref().unwrap_or(record));
     let cause = other.act(&asked)?;
@@ -108,8 +108,8 @@ fn act_damaged(
         let taken = cause != 10;
         tally.taken += u64::from(taken);
         tally.refused += u64::from(!taken);
-        if let Some(place) = place {
-            tally.places.entry(place).or_default()[usize::from(taken)] += 1;
+        if let Some(index) = index {
+            tally.alone.entry(index).or_default()[usize::from(taken)] += 1;
         }
     }
     if other.in_ranges() && random.chance(1, 4) {
@@ -183,12 +183,12 @@ fn main() -> ExitCode {
         tally.refused, tally.taken
     );
     let both_ways = |p: &&[u64; 2]| p[0] > 0 && p[1] > 0;
-    let places = tally.places.values();
+    let alone = tally.alone.values();
     println!(
-        "of 80 places, damaged alone: {} refused, {} taken, {} both",
-        places.clone().filter(|p| p[0] > 0).count(),
-        places.clone().filter(|p| p[1] > 0).count(),
-        places.filter(both_ways).count()
+        "of 80 numbers, damaged alone: {} refused, {} taken, {} both",
+        alone.clone().filter(|p| p[0] > 0).count(),
+        alone.clone().filter(|p| p[1] > 0).count(),
+        alone.filter(both_ways).count()
     );
     ExitCode::SUCCESS
 }

@@ -5,9 +5,10 @@
 //! if 10,000 sheets or more leave out an answer that the program can give.
 
 use std::collections::BTreeMap;
-use std::io::{Error, Read, Write};
-use std::process::{Command, ExitCode, Stdio};
+use std::io::Error;
+use std::process::ExitCode;
 
+use reference::ask::ask;
 use reference::cover::{Cover, ALLOWED_COUNTS, BRANCHES};
 use reference::generate::{generate, Generated};
 
@@ -82,26 +83,6 @@ impl Tally {
             plain.claims
         );
     }
-}
-
-/// What the program prints for a stream of sheets.
-fn ask(program: &str, stream: Vec<u8>) -> std::io::Result<Vec<u8>> {
-    let mut child = Command::new(program)
-        .stdin(Stdio::piped())
-        .stdout(Stdio::piped())
-        .spawn()?;
-    let mut input = child.stdin.take().expect("standard input is piped");
-    // If the program stops early, the sheet that is not answered shows it.
-    let writer = std::thread::spawn(move || drop(input.write_all(&stream)));
-    let mut printed = Vec::new();
-    child
-        .stdout
-        .take()
-        .expect("standard output is piped")
-        .read_to_end(&mut printed)?;
-    writer.join().expect("the writer ends");
-    child.wait()?;
-    Ok(printed)
 }
 
 /// Saves a sheet that is answered differently, and says what was expected.

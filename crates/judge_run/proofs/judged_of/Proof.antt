@@ -4,14 +4,14 @@ use borrow.Author.Needs.{needs}
 use Rattle.judge_run.proofs.judged_of.Statement.{statement}
 use Rattle.judge_run.proofs.judged_of.Tie as tie
 
-enough-correct-requires : tie.Need-enough-correct-requires
-enough-correct-requires c κs = search needs
+premise-1-requires : tie.Need-premise-1-requires
+premise-1-requires c κs = search needs
 
 element-copy-out-first-broken : tie.Need-element-copy-out-first-broken
 element-copy-out-first-broken c = search needs
 
-all-ended-requires : tie.Need-all-ended-requires
-all-ended-requires c κs = search needs
+premise-4-requires : tie.Need-premise-4-requires
+premise-4-requires c κs = search needs
 
 element-copy-out-first-broken-2 : tie.Need-element-copy-out-first-broken-2
 element-copy-out-first-broken-2 c = search needs
@@ -29,15 +29,15 @@ first-broken-requires : tie.Need-first-broken-requires
 first-broken-requires c κs = search needs
 
 returns : tie.Need-returns
-returns c = judged-at _ _ _ _ _ _ _ _ _ _ _ _ (c .before .before .before .before .before .before .before .enough-correct .ensures) (c .before .before .before .before .before .all-ended .ensures) refl refl refl refl refl (c .first-broken .ensures)
+returns c = judged-at _ _ _ _ _ _ _ _ _ _ _ _ (c .before .before .before .before .before .before .before .premise-1 .ensures) (c .before .before .before .before .before .premise-4 .ensures) refl refl refl refl refl (c .first-broken .ensures)
 
 pub judged-of-spec : {M : Type 1} → statement M
 judged-of-spec =
     tie.close
     (tie.spec
-    enough-correct-requires
+    premise-1-requires
     element-copy-out-first-broken
-    all-ended-requires
+    premise-4-requires
     element-copy-out-first-broken-2
     element-copy-out-first-broken-3
     element-copy-out-first-broken-4

@@ -66,8 +66,8 @@ array-write-found c =
     found-index _ _ _ _ _ _ _ _ _ _ _ _ _ (v .before .before .before .before .before .loop .inv .1) _ _ (r .0) (r .1) _ (v .entry-verdict .ensures) (t .before .before .before .before .before .enum-told .given .1) (v .before .before .before .before .before .before .before .pre .3) _ _ _ _ (t .breaks .ensures) in
     search needs
 
-keeps-steady-requires : tie.Need-keeps-steady-requires Inv-loop μ-loop
-keeps-steady-requires c κs = search needs
+keeps-premise-2-requires : tie.Need-keeps-premise-2-requires Inv-loop μ-loop
+keeps-premise-2-requires c κs = search needs
 
 is-broken-requires : tie.Need-is-broken-requires Inv-loop μ-loop
 is-broken-requires c κs = search needs
@@ -78,7 +78,7 @@ returns-2 c =
     let v = t .before .before .before .before .before .before .before in
     let l = v .before .before .before .before .before .loop in
     let r = v .before .before .before .read-entry .ensures in
-    let k = keeps-next _ _ _ _ _ _ _ _ _ _ _ _ _ (l .inv .1) _ _ (r .0) (r .1) _ (v .entry-verdict .ensures) (t .before .before .before .before .before .enum-told .given .1) (v .before .before .before .before .before .before .before .pre .3) _ _ _ _ (t .breaks .ensures) _ _ _ (c .before .before .before .before .before .before .take-entry .ensures) _ _ (c .before .before .before .keeps-steady .result) (c .before .before .before .keeps-steady .ensures) in
+    let k = keeps-next _ _ _ _ _ _ _ _ _ _ _ _ _ (l .inv .1) _ _ (r .0) (r .1) _ (v .entry-verdict .ensures) (t .before .before .before .before .before .enum-told .given .1) (v .before .before .before .before .before .before .before .pre .3) _ _ _ _ (t .breaks .ensures) _ _ _ (c .before .before .before .before .before .before .take-entry .ensures) _ _ (c .before .before .before .keeps-premise-2 .result) (c .before .before .before .keeps-premise-2 .ensures) in
     let tells = c .before .is-broken .ensures in (
       λ none. absurd-bool (c .if1 .taken) (tells .never none),
       here _ _ _ _ (l .inv .2) (k .history) (k .stands .is-run) _ _ (k .steady-is) (k .judge-state .found-is) _ tells (c .if1 .taken) _ (v .before .before .before .before .loop-test .taken),
@@ -102,7 +102,7 @@ loop-again c =
     let v = t .before .before .before .before .before .before .before in
     let l = v .before .before .before .before .before .loop in
     let r = v .before .before .before .read-entry .ensures in
-    let k = keeps-next _ _ _ _ _ _ _ _ _ _ _ _ _ (l .inv .1) _ _ (r .0) (r .1) _ (v .entry-verdict .ensures) (t .before .before .before .before .before .enum-told .given .1) (v .before .before .before .before .before .before .before .pre .3) _ _ _ _ (t .breaks .ensures) _ _ _ (c .before .before .before .before .before .before .take-entry .ensures) _ _ (c .before .before .before .keeps-steady .result) (c .before .before .before .keeps-steady .ensures) in
+    let k = keeps-next _ _ _ _ _ _ _ _ _ _ _ _ _ (l .inv .1) _ _ (r .0) (r .1) _ (v .entry-verdict .ensures) (t .before .before .before .before .before .enum-told .given .1) (v .before .before .before .before .before .before .before .pre .3) _ _ _ _ (t .breaks .ensures) _ _ _ (c .before .before .before .before .before .before .take-entry .ensures) _ _ (c .before .before .before .keeps-premise-2 .result) (c .before .before .before .keeps-premise-2 .ensures) in
     (search needs, k, one-on _ _ _ _ (l .inv .2) (k .history) (k .stands .is-run) _ _ (k .steady-is) (k .judge-state .found-is) _ (c .before .is-broken .ensures) (c .if1 .left))
 
 judged-of-requires : tie.Need-judged-of-requires Inv-loop μ-loop
@@ -133,7 +133,7 @@ run-entries-spec =
     breaks-requires
     take-entry-requires
     array-write-found
-    keeps-steady-requires
+    keeps-premise-2-requires
     is-broken-requires
     returns-2
     add-i

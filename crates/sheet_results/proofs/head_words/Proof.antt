@@ -3,8 +3,8 @@ use borrow.Author.Needs.{needs}
 use Rattle.sheet_results.proofs.head_words.Statement.{statement}
 use Rattle.sheet_results.proofs.head_words.Tie as tie
 
-result-of-requires : tie.Need-result-of-requires
-result-of-requires c κs = search needs
+result-numbers-requires : tie.Need-result-numbers-requires
+result-numbers-requires c κs = search needs
 
 array-read-word-6 : tie.Need-array-read-word-6
 array-read-word-6 c = search needs
@@ -31,13 +31,13 @@ add-t25 : tie.Need-add-t25
 add-t25 c = search needs
 
 returns : tie.Need-returns
-returns c = λ r is range. let words = c .word-6 .ensures in let result = c .before .result-of .ensures in let low = c .before .before .pre in (outcome-is _ _ _ _ low result words r is range, adjustment-is _ _ _ _ low result words r is range, start-is _ _ _ _ low result words r is range)
+returns c = λ r is range. let words = c .word-6 .ensures in let result = c .before .result-numbers .ensures in let low = c .before .before .pre in (outcome-is _ _ _ _ low result words r is range, adjustment-is _ _ _ _ low result words r is range, start-is _ _ _ _ low result words r is range)
 
 pub head-words-spec : {M : Type 1} → statement M
 head-words-spec =
     tie.close
     (tie.spec
-    result-of-requires
+    result-numbers-requires
     array-read-word-6
     array-read-word-6-2
     array-read-word-6-3

@@ -18,8 +18,8 @@ number-in-requires-2 c κs = search needs
 element-copy-out-t10 : tie.Need-element-copy-out-t10
 element-copy-out-t10 c = search needs
 
-result-of-requires : tie.Need-result-of-requires
-result-of-requires c κs = search needs
+result-numbers-requires : tie.Need-result-numbers-requires
+result-numbers-requires c κs = search needs
 
 array-read-t10 : tie.Need-array-read-t10
 array-read-t10 c = search needs
@@ -30,7 +30,7 @@ cast-t19 c = search needs
 returns : tie.Need-returns
 returns c =
     let b = c .before .before in
-    line-is _ _ _ _ _ (b .before .before .number-in .ensures) (b .number-in2 .ensures) (c .result-of .ensures)
+    line-is _ _ _ _ _ (b .before .before .number-in .ensures) (b .number-in2 .ensures) (c .result-numbers .ensures)
 
 pub line-of-spec : {M : Type 1} → statement M
 line-of-spec =
@@ -41,7 +41,7 @@ line-of-spec =
     element-copy-out-number-in-2
     number-in-requires-2
     element-copy-out-t10
-    result-of-requires
+    result-numbers-requires
     array-read-t10
     cast-t19
     returns)

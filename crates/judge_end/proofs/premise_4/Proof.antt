@@ -5,10 +5,10 @@ use native.Mathlib.Omega.{arith}
 use denote.Ref.{now}
 use Rattle.protocol.specs.Base.{allBelow}
 use Rattle.data_sets.proofs.Loops.{all-until}
-use Rattle.judge_end.proofs.Ended.{isEnded, ended-more, not-ended, all-ended-is}
+use Rattle.judge_end.proofs.Ended.{isEnded, ended-more, not-ended, premise-4-is}
 use borrow.Author.Needs.{needs}
-use Rattle.judge_end.proofs.all_ended.Statement.{statement}
-use Rattle.judge_end.proofs.all_ended.Tie as tie
+use Rattle.judge_end.proofs.premise_4.Statement.{statement}
+use Rattle.judge_end.proofs.premise_4.Tie as tie
 
 abbrev Inv-loop : tie.InvT-loop
 Inv-loop g heads q₀ q = (q ≤ g .n) × (allBelow q (isEnded g heads) ≡ true)
@@ -45,7 +45,7 @@ returns c =
     let at = c .before .before .before .head-index .ensures in
     let ended = c .before .has-ended .ensures in
     sym (not-ended (A .g) (now (A .heads)) (c .before .before .before .before .before .before .before .loop .q) correct at ended (c .if2 .taken) (c .before .before .before .before .before .if1 .taken))
-    ∙ all-ended-is stands is
+    ∙ premise-4-is stands is
 
 add-q : tie.Need-add-q Inv-loop μ-loop
 add-q c = search needs
@@ -67,10 +67,10 @@ returns-2 c =
     λ ws i s stands is.
     let A = c .before .before .before .args in
     let L = c .before .before .loop in
-    sym (all-until (A .g .n) (L .q) (isEnded (A .g) (now (A .heads))) (L .inv .0) (c .if1 .left) (L .inv .1)) ∙ all-ended-is stands is
+    sym (all-until (A .g .n) (L .q) (isEnded (A .g) (now (A .heads))) (L .inv .0) (c .if1 .left) (L .inv .1)) ∙ premise-4-is stands is
 
-pub all-ended-spec : {M : Type 1} → statement M
-all-ended-spec =
+pub premise-4-spec : {M : Type 1} → statement M
+premise-4-spec =
     tie.close
     (tie.spec
     Inv-loop

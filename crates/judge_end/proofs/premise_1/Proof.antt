@@ -3,8 +3,8 @@ use Rattle.protocol.specs.Words.{isCorrect}
 use Rattle.protocol.specs.Premises.{premise1}
 use Rattle.judge_end.proofs.Counts.{leb-minus}
 use borrow.Author.Needs.{needs}
-use Rattle.judge_end.proofs.enough_correct.Statement.{statement}
-use Rattle.judge_end.proofs.enough_correct.Tie as tie
+use Rattle.judge_end.proofs.premise_1.Statement.{statement}
+use Rattle.judge_end.proofs.premise_1.Tie as tie
 
 cast-result : tie.Need-cast-result
 cast-result c = search needs
@@ -25,7 +25,7 @@ returns : tie.Need-returns
 unfolding premise1
 returns c = rw (c .before .correct-heads .ensures .0) (let g = c .before .before .before .args .g in leb-minus (g .n) (countBelow (g .n) (isCorrect g)) (g .f))
 
-pub enough-correct-spec : {M : Type 1} → statement M
-enough-correct-spec =
+pub premise-1-spec : {M : Type 1} → statement M
+premise-1-spec =
     tie.close
     (tie.spec cast-result correct-heads-requires cast-result-2 cast-result-3 add-result returns)

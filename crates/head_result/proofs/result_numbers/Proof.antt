@@ -1,7 +1,7 @@
 use borrow.Author.Needs.{needs}
 use Rattle.head_result.proofs.Results.{still-open, no-candidate, no-adjuster, no-start, adopted}
-use Rattle.head_result.proofs.result_of.Statement.{statement}
-use Rattle.head_result.proofs.result_of.Tie as tie
+use Rattle.head_result.proofs.result_numbers.Statement.{statement}
+use Rattle.head_result.proofs.result_numbers.Tie as tie
 
 element-copy-out-has-mark : tie.Need-element-copy-out-has-mark
 element-copy-out-has-mark c = search needs
@@ -57,8 +57,8 @@ returns-4 c = adopted _ _ (c .before .before .before .before .before .before .be
 returns-5 : tie.Need-returns-5
 returns-5 c = still-open _ _ (c .before .has-mark .ensures) (c .if1 .left)
 
-pub result-of-spec : {M : Type 1} → statement M
-result-of-spec =
+pub result-numbers-spec : {M : Type 1} → statement M
+result-numbers-spec =
     tie.close
     (tie.spec
     element-copy-out-has-mark

@@ -10,8 +10,8 @@ use denote.Ref.{now}
 use Rattle.judge_premise_2.specs.Drift.{lesserOf}
 use Rattle.judge_entry.proofs.Steady.{differs-next, steady-next}
 use borrow.Author.Needs.{needs}
-use Rattle.judge_entry.proofs.keeps_steady.Statement.{statement}
-use Rattle.judge_entry.proofs.keeps_steady.Tie as tie
+use Rattle.judge_entry.proofs.keeps_premise_2.Statement.{statement}
+use Rattle.judge_entry.proofs.keeps_premise_2.Tie as tie
 
 head-index-requires : tie.Need-head-index-requires
 head-index-requires c κs = search needs
@@ -79,8 +79,8 @@ returns c =
       steady-next stands acc gs es kept (at .ensures) (c .before .is-correct .ensures) ahead behind (c .stays-steady .ensures),
     )
 
-pub keeps-steady-spec : {M : Type 1} → statement M
-keeps-steady-spec =
+pub keeps-premise-2-spec : {M : Type 1} → statement M
+keeps-premise-2-spec =
     tie.close
     (tie.spec
     head-index-requires

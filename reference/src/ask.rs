@@ -1,0 +1,24 @@
+//! A proved program, run as a child of the program that compares it.
+
+use std::io::{Read, Write};
+use std::process::{Command, Stdio};
+
+/// What a program prints for these bytes on its standard input.
+pub fn ask(program: &str, bytes: Vec<u8>) -> std::io::Result<Vec<u8>> {
+    let mut child = Command::new(program)
+        .stdin(Stdio::piped())
+        .stdout(Stdio::piped())
+        .spawn()?;
+    let mut input = child.stdin.take().expect("standard input is piped");
+    // If the program stops early, the sheet that is not answered shows it.
+    let writer = std::thread::spawn(move || drop(input.write_all(&bytes)));
+    let mut printed = Vec::new();
+    child
+        .stdout
+        .take()
+        .expect("standard output is piped")
+        .read_to_end(&mut printed)?;
+    writer.join().expect("the writer ends");
+    child.wait()?;
+    Ok(printed)
+}

@@ -1,0 +1,93 @@
+//! `traces PROGRAM SEED COUNT`: gives generated sheets, one at a time, to PROGRAM, the
+//! proved program `trace`, and compares the last line that it prints with
+//! [`reference::trace`]. Stops at the first difference and saves that sheet as
+//! `difference.sheet`. Fails too if 2,000 sheets or more leave out a kind of last line.
+
+use std::io::Error;
+use std::process::ExitCode;
+
+use reference::ask::ask;
+use reference::generate::generate;
+use reference::trace::last_line;
+
+/// From this many sheets on, each of `KINDS` must have been seen.
+const ENOUGH: u64 = 2_000;
+/// What a last line begins with.
+const KINDS: [&str; 10] = [
+    "refused",
+    "premises 0",
+    "premises 1",
+    "premises 2",
+    "premises 3",
+    "premises 4",
+    "premises 5",
+    "premises 6",
+    "premises 7",
+    "premises 8",
+];
+
+/// The last line of a text, with the end of line that it has.
+fn last_of(text: &str) -> &str {
+    text.split_inclusive('\n').next_back().unwrap_or_default()
+}
+
+/// Compares one sheet, and gives the last line of both.
+fn compare(program: &str, seed: u64, index: u64) -> Result<Result<String, String>, Error> {
+    let made = generate(seed, index);
+    let expected = last_line(&made.bytes);
+    let printed = ask(program, made.bytes.clone())?;
+    let printed = String::from_utf8_lossy(&printed);
+    let printed = last_of(&printed);
+    if printed == expected {
+        return Ok(Ok(expected));
+    }
+    std::fs::write("difference.sheet", &made.bytes)?;
+    let at = format!("sheet {index} of seed {seed}, {:?}", made.aim);
+    Ok(Err(format!(
+        "difference at {at}\nexpected:\n{expected}printed:\n{printed}"
+    )))
+}
+
+/// Prints how often each kind was seen, and gives those that never were.
+fn print(seen: &[u64; KINDS.len()]) -> Vec<&'static str> {
+    let mut missing = Vec::new();
+    for (kind, &sheets) in KINDS.iter().zip(seen) {
+        println!("{sheets:>9}  {kind}");
+        if sheets == 0 {
+            missing.push(*kind);
+        }
+    }
+    missing
+}
+
+fn main() -> Result<ExitCode, Error> {
+    let arguments: Vec<String> = std::env::args().collect();
+    let numbers = (
+        arguments.get(2).and_then(|a| a.parse::<u64>().ok()),
+        arguments.get(3).and_then(|a| a.parse::<u64>().ok()),
+    );
+    let (Some(program), (Some(seed), Some(count))) = (arguments.get(1), numbers) else {
+        eprintln!("usage: traces PROGRAM SEED COUNT");
+        return Ok(ExitCode::from(2));
+    };
+    let mut seen = [0; KINDS.len()];
+    for index in 0..count {
+        match compare(program, seed, index)? {
+            Err(what) => {
+                println!("{what}");
+                return Ok(ExitCode::FAILURE);
+            }
+            Ok(line) => {
+                let kind = KINDS.iter().position(|kind| line.starts_with(kind));
+                seen[kind.expect("a last line is of a kind")] += 1;
+            }
+        }
+    }
+    println!("{count} sheets of seed {seed}, none skipped, no difference in the last line");
+    let missing = print(&seen);
+    if count >= ENOUGH && !missing.is_empty() {
+        println!("never seen: {}", missing.join(", "));
+        return Ok(ExitCode::FAILURE);
+    }
+    Ok(ExitCode::SUCCESS)
+}
