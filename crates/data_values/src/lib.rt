@@ -6,6 +6,8 @@ use protocol::OptReading;
 ghost use mathlib.Core.Path.{_≡_};
 ghost use Rattle.protocol.specs.Causes.{causeNumber};
 ghost use Rattle.protocol.specs.Record.{isNumber, isReading, numberOr0, readingOr0};
+ghost use Rattle.protocol.specs.Row.{numberIn};
+ghost use Rattle.data_values.specs.Numbers.{cutNumber};
 
 pub fn is_number(k: OptNumber) -> bool
     ensures { λ b. ⌜ b ≡ isNumber k ⌝ }
@@ -31,6 +33,17 @@ pub fn number_or_0(x: OptNumber) -> u8
     match x {
         OptNumber::NoNumber => 0,
         OptNumber::SomeNumber(k) => k,
+    }
+}
+
+// A row's number for a head number or a serial that may be none: 0 for none, else one more than it.
+pub fn number_in(w: u32) -> OptNumber
+    ensures { λ k. ⌜ k ≡ cutNumber (numberIn w) ⌝ }
+{
+    if w == 0 {
+        OptNumber::NoNumber
+    } else {
+        OptNumber::SomeNumber(((w - 1) % 256) as u8)
     }
 }
 

@@ -20,7 +20,9 @@ use Rattle.protocol.specs.Row.{senderIn, recordIn, rowFits, rowInRange}
 use Rattle.protocol.proofs.Tests.{cases, and-right}
 use Rattle.protocol.proofs.Tables.{length-table, table-at}
 use Rattle.protocol.proofs.Ranges.{in-range, SenderInRange, KeptInRange, SentInRange}
-use Rattle.head_record.specs.Bytes.{cutNumber, cutSender, cutPhase, cut, Holds}
+use Rattle.data_values.specs.Numbers.{cutNumber}
+use Rattle.data_values.proofs.Numbers.{number-same}
+use Rattle.head_record.specs.Bytes.{cutSender, cutPhase, cut, Holds}
 
 -- senders, each read from its numbers: the first, and all sixteen
 pub first-read : (w : List ℕ) (k : Sender) → k ≡ cutSender (senderIn w 0) → (p : ℕ) → p < 1 → getD (replicate 16 k) p noSender ≡ cutSender (senderIn w p)
@@ -37,10 +39,6 @@ all-read w l long each =
 
 pub byte-same : (k : ℕ) → k < 256 → k % 256 ≡ k
 byte-same k lt = omega arith
-
-number-same : (x : OptNumber) → numberOr0 x < 256 → cutNumber x ≡ x
-number-same NoNumber lt = refl
-number-same (SomeNumber k) lt = ap SomeNumber (byte-same k lt)
 
 sender-same : (n p : ℕ) (k : Sender) → p < 16 → KeptInRange n p k → cutSender k ≡ k
 sender-same n p k below kept = cases (ltb p n) (λ t. inside (kept .below (ltb-true p n t))) (λ t. let none = kept .above (ltb-false p n t) below in ap cutSender none ∙ sym none)

@@ -3,8 +3,6 @@ use mathlib.Core.Path.{_≡_}
 use mathlib.Core.Bool.{true}
 use mathlib.Core.List.{List, map}
 use Prim.Native.Nat.{ℕ, _%_, _^_, _<_}
-use Rattle.protocol.specs.declared.OptNumber.{OptNumber}
-use Rattle.protocol.specs.declared.OptNumber.the-variants.{NoNumber, SomeNumber}
 use Rattle.protocol.specs.declared.Sender.{Sender}
 use Rattle.protocol.specs.declared.Phase.{Phase}
 use Rattle.protocol.specs.declared.HeadRecord.{HeadRecord}
@@ -12,14 +10,11 @@ use Rattle.protocol.specs.declared.Sent.{Sent}
 use Rattle.protocol.specs.declared.Frame.{Frame}
 use Rattle.protocol.specs.declared.Frame.the-variants.{NoFrame, Start, Vote, Adjust}
 use Rattle.protocol.specs.Record.{readingOr0}
+use Rattle.data_values.specs.Numbers.{cutNumber}
 use Rattle.protocol.specs.Step.{hasMark}
 use Rattle.protocol.specs.Row.{numberIn, recordIn, rowInRange, sentOf}
 
 -- the eight lowest bits of each
-abbrev pub cutNumber : OptNumber → OptNumber
-cutNumber NoNumber = NoNumber
-cutNumber (SomeNumber k) = SomeNumber (k % 256)
-
 abbrev pub cutSender : Sender → Sender
 cutSender k = record { start = k .start; vote = k .vote; voted = cutNumber (k .voted); adjusted = cutNumber (k .adjusted) }
 

@@ -1,6 +1,7 @@
 // A head's record by value and its row: the row of a record, the record that a row in its ranges holds, and a frame from its
 // numbers.
 use data_values::is_number;
+use data_values::number_in;
 use head_open::has_mark;
 use protocol::Frame;
 use protocol::HeadRecord;
@@ -15,9 +16,9 @@ ghost use mathlib.Core.List.{map};
 ghost use Prim.Native.Nat.{_%_, _<_, _≤_};
 ghost use Rattle.protocol.specs.Base.{table};
 ghost use Rattle.protocol.specs.Record.{markNumber, marksNumber};
-ghost use Rattle.protocol.specs.Row.{numberIn, numberPlus1, readingIn, readingPlus1, rowOf, senderIn};
+ghost use Rattle.protocol.specs.Row.{numberPlus1, readingIn, readingPlus1, rowOf, senderIn};
 ghost use Rattle.head_record.specs.Filling.{bare, withNumbers, Completes};
-ghost use Rattle.head_record.specs.Bytes.{cutNumber, cutPhase, cutSender, phaseIn, Holds, StandsFor};
+ghost use Rattle.head_record.specs.Bytes.{cutPhase, cutSender, phaseIn, Holds, StandsFor};
 
 fn number_plus_1(k: OptNumber) -> u32
     ensures { λ w. ⌜ w ≡ numberPlus1 k ⌝ }
@@ -122,16 +123,6 @@ fn byte(w: u32) -> u8
     ensures { λ k. ⌜ k ≡ w % 256 ⌝ }
 {
     (w % 256) as u8
-}
-
-fn number_in(w: u32) -> OptNumber
-    ensures { λ k. ⌜ k ≡ cutNumber (numberIn w) ⌝ }
-{
-    if w == 0 {
-        OptNumber::NoNumber
-    } else {
-        OptNumber::SomeNumber(byte(w - 1))
-    }
 }
 
 fn reading_in(w: u32) -> OptReading

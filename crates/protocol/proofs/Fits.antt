@@ -1,5 +1,6 @@
 -- What a sheet's words say, and the rules that whatever passes causes 1 to 4 and 6 keeps, told in numbers.
--- Main results: `setting-of-fields`, `entry-of-fields`, `not-accepted`, `sheet-fits`, `correct-heads-below-n`, `entry-fits`, `input-fits`.
+-- Main results: `setting-of-fields`, `entry-of-fields`, `heads-in-word`, `not-accepted`, `sheet-fits`, `correct-heads-below-n`,
+-- `entry-fits`, `input-fits`.
 use mathlib.Core.Path.{_≡_, refl, ap}
 use mathlib.Core.Bool.{Bool, true, not, _&&_, _||_}
 use mathlib.Core.List.{List, _∷_}
@@ -67,7 +68,7 @@ pub record FittingSheet (ws : List ℕ) : Type 0 where
   pub second-word : secondWordFits (getD ws 1 0) ≡ true
   pub heads : headsFit (settingAt ws .n) (settingAt ws .f) ≡ true
 
-heads-in-word : (a b : ℕ) → firstWordFits a ≡ true → headsFit (settingOf a b .n) (settingOf a b .f) ≡ true
+pub heads-in-word : (a b : ℕ) → firstWordFits a ≡ true → headsFit (settingOf a b .n) (settingOf a b .f) ≡ true
 unfolding firstWordFits settingOf
 heads-in-word a b e = and-left (headsFit (bits a 27 20) (bits a 19 16)) _ (and-right (eqb (kindOf a) 1) _ e)
 

@@ -5,13 +5,12 @@ use mathlib.Core.Bool.{true}
 use mathlib.Core.List.{List, [], _∷_}
 use Prim.Native.Nat.{ℕ, suc, _≤_, _<_}
 use native.Mathlib.Omega.{arith}
-use lib.Dec.{eqb}
 use lib.ListN.{getD}
 use Rattle.protocol.specs.declared.Verdict.the-variants.{Accepted}
-use Rattle.protocol.specs.Words.{bits, headsFit, settingOf, firstWordFits, entryOf, settingAt, entryAt}
+use Rattle.protocol.specs.Words.{headsFit, entryOf, settingAt, entryAt}
 use Rattle.protocol.specs.Row.{rowOf}
 use Rattle.protocol.specs.Run.{History, recordOf}
-use Rattle.protocol.proofs.Tests.{and-left, and-right}
+use Rattle.protocol.proofs.Fits.{heads-in-word}
 use Rattle.protocol.proofs.Tables.{table-at}
 use Rattle.protocol.proofs.Valid.{Taken, Valid, valid-run, valid-taken, heads-fit}
 use Rattle.protocol.proofs.Runs.{goes-on}
@@ -24,8 +23,7 @@ entry-sized ws i = (omega arith, omega arith, omega arith)
 
 module _ {ws : List ℕ} {i : ℕ} {s : History} {heads : List (List ℕ)} (now : Stands ws i s heads) where
   pub heads-few : headsFit (settingAt ws .n) (settingAt ws .f) ≡ true
-  unfolding settingOf firstWordFits
-  heads-few = and-left (headsFit (bits (getD ws 0 0) 27 20) (bits (getD ws 0 0) 19 16)) _ (and-right (eqb (bits (getD ws 0 0) 31 28) 1) _ (now .first-word))
+  heads-few = heads-in-word (getD ws 0 0) (getD ws 1 0) (now .first-word)
 
   pub at-most-16 : settingAt ws .n ≤ 16
   at-most-16 = heads-fit _ _ heads-few .1

@@ -2,15 +2,14 @@
 use mathlib.Core.Path.{_≡_}
 use mathlib.Core.Bool.{true}
 use mathlib.Core.List.{List}
-use Prim.Native.Nat.{ℕ, _+_, _≤_, _<_}
+use Prim.Native.Nat.{ℕ, _+_, _≤_}
 use lib.ListN.{length}
-use Rattle.protocol.specs.declared.OptNumber.{OptNumber}
 use Rattle.protocol.specs.declared.HeadRecord.{HeadRecord}
 use Rattle.protocol.specs.declared.Entry.{Entry}
 use Rattle.protocol.specs.declared.Verdict.the-variants.{Accepted}
 use Rattle.protocol.specs.Words.{entryCount}
-use Rattle.protocol.specs.Record.{numberOr0, recordInRange}
-use Rattle.protocol.specs.Row.{numberPlus1, rowOf}
+use Rattle.protocol.specs.Record.{recordInRange}
+use Rattle.protocol.specs.Row.{rowOf}
 use Rattle.protocol.specs.Causes.{sheetVerdict}
 use Rattle.protocol.specs.Run.{History, lastTime}
 use Rattle.sheet_state.specs.Arrays.{Stands, Carries}
@@ -31,10 +30,6 @@ pub record Follows (ws : List ℕ) (i : ℕ) (heads : List (List ℕ)) (choices 
 -- after entry i is shown, what is left is that of one entry more
 abbrev pub GoesOn : List ℕ → ℕ → Traced → List (List ℕ) → List ℕ → List ℕ → Type 0
 GoesOn ws i t heads choices carried = (l : Line) → t ≡ After l → Follows ws (i + 1) heads choices carried (l .time .0)
-
--- k is the number that a row has as w
-abbrev pub IsNumber : ℕ → OptNumber → Type 0
-IsNumber w k = (m : OptNumber) → w ≡ numberPlus1 m → numberOr0 m < 16 → k ≡ m
 
 -- l is the line of the entry, for the record in its ranges that the row is of
 abbrev pub IsLine : Entry → List ℕ → Line → Type 0

@@ -1,4 +1,5 @@
 // What the program trace shows of an entry: the entry, and where its head stands after it.
+use data_values::number_in;
 use head_result::result_numbers;
 use head_row::fresh_row;
 use judge_run::number_heads;
@@ -19,7 +20,7 @@ ghost use lib.ListN.{replicate};
 ghost use Rattle.protocol.specs.declared.Verdict.the-variants.{Accepted};
 ghost use Rattle.protocol.specs.Causes.{sheetVerdict};
 ghost use Rattle.trace_entries.specs.Trace.{traced};
-ghost use Rattle.trace_entries.specs.Follows.{Follows, GoesOn, IsNumber, IsLine};
+ghost use Rattle.trace_entries.specs.Follows.{Follows, GoesOn, IsLine};
 
 // An entry, with its head's candidate, adjuster, adjustment and outcome after it.
 pub struct Line {
@@ -37,16 +38,6 @@ pub enum Traced {
     After(Line),
     RefusedAt(Cause, usize),
     Ended,
-}
-
-fn number_in(w: u32) -> OptNumber
-    ensures { λ k. ⌜ IsNumber w k ⌝ }
-{
-    if w == 0 {
-        OptNumber::NoNumber
-    } else {
-        OptNumber::SomeNumber(((w - 1) % 256) as u8)
-    }
 }
 
 fn line_of(e: Entry, row: &[u32; 80]) -> Line

@@ -1,7 +1,7 @@
-use Rattle.trace_entries.proofs.Lines.{none-in, some-in}
+use borrow.Author.Tests.{eq-eqb, ne-eqb}
 use borrow.Author.Needs.{needs}
-use Rattle.trace_entries.proofs.number_in.Statement.{statement}
-use Rattle.trace_entries.proofs.number_in.Tie as tie
+use Rattle.data_values.proofs.number_in.Statement.{statement}
+use Rattle.data_values.proofs.number_in.Tie as tie
 
 sub-t4 : tie.Need-sub-t4
 sub-t4 c = search needs
@@ -10,10 +10,10 @@ cast-t6 : tie.Need-cast-t6
 cast-t6 c = search needs
 
 returns : tie.Need-returns
-returns c = none-in _ (c .if1 .taken)
+returns c = simp (eq-eqb _ _ (c .if1 .taken))
 
 returns-2 : tie.Need-returns-2
-returns-2 c = some-in _ (c .if1 .left)
+returns-2 c = simp (ne-eqb _ _ (c .if1 .left))
 
 pub number-in-spec : {M : Type 1} → statement M
 number-in-spec = tie.close (tie.spec sub-t4 cast-t6 returns returns-2)
