@@ -21,7 +21,7 @@ const BLANK: u8 = 32;
 const NEWLINE: u8 = 10;
 
 // A field, and the blank behind it.
-fn put_field(x: u64, out: &mut [u8], at: usize) -> usize
+pub fn put_field(x: u64, out: &mut [u8], at: usize) -> usize
     ensures { λ r. ⌜ (now (out .exit) ≡ written (now (out .entry)) at (decimal x ++ (32 ∷ []))) × (r ≡ endOf at (decimal x ++ (32 ∷ []))) ⌝ }
 {
     let p = put_decimal(out, at, x);

@@ -6,7 +6,6 @@ use data_bytes::big_endian;
 use data_bytes::bytes_verdict;
 use libc::STDIN_FILENO;
 use libc::STDOUT_FILENO;
-use protocol::OptNumber;
 use protocol::Verdict;
 use sheet_words::sheet_verdict;
 use trace_entries::Line;
@@ -14,6 +13,7 @@ use trace_entries::Traced;
 use trace_entries::first_heads;
 use trace_entries::trace_next;
 use trace_last::put_last_line;
+use trace_text::put_entry_line;
 ghost use mathlib.Core.Path.{_≡_};
 ghost use Rattle.protocol.specs.declared.Verdict.the-variants.{Accepted};
 ghost use Rattle.protocol.specs.Causes.{sheetVerdict};
@@ -22,42 +22,10 @@ fn print(text: &[u8]) {
     io::write_all(STDOUT_FILENO, text);
 }
 
-fn print_number(x: u64) {
-    io::print_decimal(STDOUT_FILENO, x);
-}
-
-fn print_field(x: u64) {
-    print_number(x);
-    print(b" ");
-}
-
-fn print_choice(k: OptNumber) {
-    match k {
-        OptNumber::NoNumber => print(b"- "),
-        OptNumber::SomeNumber(x) => print_field(x as u64),
-    }
-}
-
-// The adjustment of a head that has an adjuster.
-fn print_adjustment(adjuster: OptNumber, x: u32) {
-    match adjuster {
-        OptNumber::NoNumber => print(b"- "),
-        OptNumber::SomeNumber(_) => print_field(x as u64),
-    }
-}
-
 fn print_line(i: usize, l: Line) {
-    print_field(i as u64);
-    print_field(l.time.0 as u64);
-    print_field(l.head as u64);
-    print_field(l.action as u64);
-    let candidate = l.candidate;
-    let adjuster = l.adjuster;
-    print_choice(candidate);
-    print_choice(adjuster);
-    print_adjustment(adjuster, l.adjustment.0);
-    print_number(l.outcome as u64);
-    print(b"\n");
+    let mut out = [0u8; 168];
+    let n = put_entry_line(i, l, &mut out);
+    print(&out[..n]);
 }
 
 // Prints the entries of an accepted sheet, up to one that is refused.

@@ -83,7 +83,7 @@ fn main() -> Result<ExitCode, Error> {
             }
         }
     }
-    println!("{count} sheets of seed {seed}, none skipped, no difference in the last line");
+    println!("{count} sheets of seed {seed}, no difference in the last line");
     let missing = print(&seen);
     if count >= ENOUGH && !missing.is_empty() {
         println!("never seen: {}", missing.join(", "));

@@ -1,0 +1,49 @@
+-- `put_choice`: `-`, or the number.
+use borrow.Author.Needs.{needs}
+use Rattle.trace_text.proofs.put_choice.Statement.{statement}
+use Rattle.trace_text.proofs.put_choice.Tie as tie
+
+enum-told : tie.Need-enum-told
+enum-told c = search needs
+
+slice-aggregate-put-text : tie.Need-slice-aggregate-put-text
+slice-aggregate-put-text c = search needs
+
+put-text-requires : tie.Need-put-text-requires
+put-text-requires c κs = search needs
+
+enum-known-k : tie.Need-enum-known-k
+enum-known-k c = search needs
+
+cast-put-field : tie.Need-cast-put-field
+cast-put-field c = search needs
+
+put-field-requires : tie.Need-put-field-requires
+put-field-requires c κs = search needs
+
+same-length : tie.Need-same-length
+same-length c = search needs
+
+returns : tie.Need-returns
+returns c = rw (c .before .before .before .before .before .enum-told .given .1) (c .before .before .put-text .ensures)
+
+same-length-2 : tie.Need-same-length-2
+same-length-2 c = search needs
+
+returns-2 : tie.Need-returns-2
+returns-2 c = rw (c .before .before .before .before .before .k .given .1) (c .before .before .put-field .ensures)
+
+pub put-choice-spec : {M : Type 1} → statement M
+put-choice-spec =
+    tie.close
+    (tie.spec
+    enum-told
+    slice-aggregate-put-text
+    put-text-requires
+    enum-known-k
+    cast-put-field
+    put-field-requires
+    same-length
+    returns
+    same-length-2
+    returns-2)

@@ -1,0 +1,65 @@
+-- `put_entry_line`: the entry's fields, then the head's.
+use mathlib.Core.List.{[], _∷_}
+use Rattle.protocol.specs.Program.{decimal, line}
+use Rattle.print_lines.proofs.Lines.{and-then, field-then, last-field}
+use Rattle.trace_text.specs.Text.{numberText, choiceText, entryFields, entryText}
+use Rattle.trace_text.proofs.Fields.{fields-line, shown}
+use borrow.Author.Needs.{needs}
+use Rattle.trace_text.proofs.put_entry_line.Statement.{statement}
+use Rattle.trace_text.proofs.put_entry_line.Tie as tie
+
+put-entry-requires : tie.Need-put-entry-requires
+put-entry-requires c κs = search needs
+
+put-choice-requires : tie.Need-put-choice-requires
+put-choice-requires c κs = search needs
+
+put-choice-requires-2 : tie.Need-put-choice-requires-2
+put-choice-requires-2 c κs = search needs
+
+put-adjustment-requires : tie.Need-put-adjustment-requires
+put-adjustment-requires c κs = search needs
+
+cast-put-decimal : tie.Need-cast-put-decimal
+cast-put-decimal c = search needs
+
+put-decimal-requires : tie.Need-put-decimal-requires
+put-decimal-requires c κs = search needs
+
+put-requires : tie.Need-put-requires
+put-requires c κs = search needs
+
+same-length : tie.Need-same-length
+same-length c = search needs
+
+returns : tie.Need-returns
+unfolding entryText
+returns c =
+    let s = c .before .before .before .before .before .before .before .before .before .before .before .before .before .before .before .before .before .before .before .before .before .before .before .before .before .before in
+    let l = s .args .l in
+    let k = choiceText (l .candidate) in
+    let a = choiceText (l .adjuster) in
+    let x = numberText (l .adjuster) (l .adjustment .0) in
+    let o = decimal (l .outcome) in
+    let entry = decimal (s .args .i) ∷ decimal (l .time .0) ∷ decimal (l .head) ∷ decimal (l .action) ∷ [] in
+    shown (s .args .i) l (s .args .out .now) _ _
+    (rw (fields-line entry k (a ∷ x ∷ o ∷ []))
+    (and-then (s .args .out .now) _ _ 0 _ _ (entryFields (s .args .i) (l .time .0) (l .head) (l .action)) (line (k ∷ a ∷ x ∷ o ∷ [])) (s .good .1 .1 .0 .0) (c .before .before .before .before .before .before .before .before .before .before .before .before .before .before .before .before .before .before .before .before .before .before .before .put-entry .ensures) (λ h.
+    field-then _ _ _ _ _ _ k a (x ∷ o ∷ []) h (c .before .before .before .before .before .before .before .before .before .before .before .before .before .before .before .before .before .before .before .put-choice .ensures) (λ h.
+    field-then _ _ _ _ _ _ a x (o ∷ []) h (c .before .before .before .before .before .before .before .before .before .before .before .before .before .before .before .put-choice2 .ensures) (λ h.
+    field-then _ _ _ _ _ _ x o [] h (c .before .before .before .before .before .before .before .before .before .before .before .put-adjustment .ensures) (λ h.
+    last-field _ _ _ _ _ _ o h (c .before .before .before .before .before .before .put-decimal .ensures) (c .before .before .put .ensures)))))))
+
+pub put-entry-line-spec : {M : Type 1} → statement M
+put-entry-line-spec =
+    tie.close
+    (tie.spec
+    put-entry-requires
+    put-choice-requires
+    put-choice-requires-2
+    put-adjustment-requires
+    cast-put-decimal
+    put-decimal-requires
+    put-requires
+    same-length
+    returns)
