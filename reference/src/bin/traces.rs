@@ -10,21 +10,14 @@ use reference::ask::ask;
 use reference::generate::generate;
 use reference::trace::last_line;
 
-/// From this many sheets on, each of `KINDS` must have been seen.
+/// From this many sheets on, each kind of last line must have been seen.
 const ENOUGH: u64 = 2_000;
-/// What a last line begins with.
-const KINDS: [&str; 10] = [
-    "refused",
-    "premises 0",
-    "premises 1",
-    "premises 2",
-    "premises 3",
-    "premises 4",
-    "premises 5",
-    "premises 6",
-    "premises 7",
-    "premises 8",
-];
+
+/// What a last line begins with: `refused`, or `premises` and a number.
+fn kinds() -> Vec<String> {
+    let premises = (0..=8).map(|p| format!("premises {p}"));
+    premises.chain(["refused".into()]).collect()
+}
 
 /// The last line of a text, with the end of line that it has.
 fn last_of(text: &str) -> &str {
@@ -49,12 +42,12 @@ fn compare(program: &str, seed: u64, index: u64) -> Result<Result<String, String
 }
 
 /// Prints how often each kind was seen, and gives those that never were.
-fn print(seen: &[u64; KINDS.len()]) -> Vec<&'static str> {
+fn print(seen: &[(String, u64)]) -> Vec<&str> {
     let mut missing = Vec::new();
-    for (kind, &sheets) in KINDS.iter().zip(seen) {
+    for (kind, sheets) in seen {
         println!("{sheets:>9}  {kind}");
-        if sheets == 0 {
-            missing.push(*kind);
+        if *sheets == 0 {
+            missing.push(kind.as_str());
         }
     }
     missing
@@ -70,7 +63,7 @@ fn main() -> Result<ExitCode, Error> {
         eprintln!("usage: traces PROGRAM SEED COUNT");
         return Ok(ExitCode::from(2));
     };
-    let mut seen = [0; KINDS.len()];
+    let mut seen: Vec<_> = kinds().into_iter().map(|kind| (kind, 0)).collect();
     for index in 0..count {
         match compare(program, seed, index)? {
             Err(what) => {
@@ -78,8 +71,8 @@ fn main() -> Result<ExitCode, Error> {
                 return Ok(ExitCode::FAILURE);
             }
             Ok(line) => {
-                let kind = KINDS.iter().position(|kind| line.starts_with(kind));
-                seen[kind.expect("a last line is of a kind")] += 1;
+                let kind = seen.iter_mut().find(|(kind, _)| line.starts_with(kind));
+                kind.expect("a last line is of a kind").1 += 1;
             }
         }
     }
