@@ -22,3 +22,12 @@ pub fn ask(program: &str, bytes: Vec<u8>) -> std::io::Result<Vec<u8>> {
     child.wait()?;
     Ok(printed)
 }
+
+/// The program to compare with, the seed and the count of sheets, from the command line.
+pub fn arguments() -> Option<(String, u64, u64)> {
+    let mut arguments = std::env::args().skip(1);
+    let program = arguments.next()?;
+    let seed = arguments.next()?.parse().ok()?;
+    let count = arguments.next()?.parse().ok()?;
+    Some((program, seed, count))
+}

@@ -12,11 +12,11 @@ use crate::words::{counts_allowed, Cause, Reading, MAX_HEADS, TIME_LIMIT};
 /// start reading, vote reading, vote serial and adjust serial.
 pub type Head = [u32; 80];
 /// Action, reading, sender, serial, choice, carried, and the mark "none".
-pub type Asked = [u32; 7];
+pub type InputNumbers = [u32; 7];
 
 extern "C" {
     fn daisarnica_fresh(head: *mut Head, n: u32, f: u32, own: u32) -> u32;
-    fn daisarnica_action(head: *mut Head, input: *const Asked, frame: *mut [u32; 5]) -> u32;
+    fn daisarnica_action(head: *mut Head, input: *const InputNumbers, frame: *mut [u32; 5]) -> u32;
     fn daisarnica_result(head: *const Head, ending: *mut [u32; 5]) -> u32;
     fn daisarnica_correction(head: *const Head) -> i64;
     fn daisarnica_reading(counter: u32, base: u32, reading: *mut u32) -> u32;
@@ -126,19 +126,19 @@ pub fn edges(index: usize, record: &Record) -> [u32; 9] {
 
 /// What the reference says to an action: the record and frame after it, or a
 /// cause. A mark "none" that is neither 0 nor 1 is out of its range.
-fn expected(record: Option<&Record>, asked: &Asked) -> Result<(Record, Option<Frame>), Cause> {
+fn expected(record: Option<&Record>, numbers: &InputNumbers) -> Result<(Record, Option<Frame>), Cause> {
     let record = record.filter(|r| r.in_ranges()).ok_or(Cause(10))?;
-    if asked[6] > 1 {
+    if numbers[6] > 1 {
         return Err(Cause(6));
     }
     let input = Input {
-        action: asked[0],
-        reading: asked[1],
-        sender: asked[2],
-        serial: asked[3],
-        carried_head: asked[4],
-        carried_reading: asked[5],
-        none: asked[6] == 1,
+        action: numbers[0],
+        reading: numbers[1],
+        sender: numbers[2],
+        serial: numbers[3],
+        carried_head: numbers[4],
+        carried_reading: numbers[5],
+        none: numbers[6] == 1,
     };
     step(record, &input)
 }
@@ -193,11 +193,11 @@ impl Both {
     }
 
     /// One action at both, which must agree: gives its cause, or 0.
-    pub fn act(&mut self, asked: &Asked) -> Result<u32, String> {
+    pub fn act(&mut self, numbers: &InputNumbers) -> Result<u32, String> {
         let before = self.head;
         let mut frame = [9; 5];
-        let cause = unsafe { daisarnica_action(&mut self.head, asked, &mut frame) };
-        let (wanted, sent) = match expected(self.record.as_ref(), asked) {
+        let cause = unsafe { daisarnica_action(&mut self.head, numbers, &mut frame) };
+        let (wanted, sent) = match expected(self.record.as_ref(), numbers) {
             Ok((after, sent)) => {
                 self.record = Some(after);
                 (0, sent)
@@ -213,7 +213,7 @@ impl Both {
             self.same_ending().map(|()| cause)
         } else {
             Err(format!(
-                "{asked:?} of {before:?}: {cause} {frame:?} {:?}, not {wanted} {sent:?} {:?}",
+                "{numbers:?} of {before:?}: {cause} {frame:?} {:?}, not {wanted} {sent:?} {:?}",
                 self.head, self.record
             ))
         }

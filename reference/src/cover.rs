@@ -6,7 +6,7 @@ use std::collections::{BTreeMap, BTreeSet};
 use crate::claim;
 use crate::fast;
 use crate::generate::{generate, Aim, Generated};
-use crate::judge::{asked, first_broken, keeps, keeps_part};
+use crate::judge::{first_broken, keeps, keeps_part, parts};
 use crate::program::{printed, read_words};
 use crate::record::Record;
 use crate::results::HeadResult;
@@ -344,7 +344,7 @@ impl Cover {
 /// The one thing asked by the first broken premise that does not hold, where a
 /// premise asks several and all others hold.
 fn lone_part(run: &Run, premise: u32) -> Option<&'static str> {
-    let broken: Vec<usize> = (0..asked(premise))
+    let broken: Vec<usize> = (0..parts(premise))
         .filter(|&part| !keeps_part(run, premise, part))
         .collect();
     match (premise, &broken[..]) {

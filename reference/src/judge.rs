@@ -18,11 +18,11 @@ pub fn first_broken(run: &Run) -> u32 {
 
 /// Whether a run keeps one premise: all that it asks.
 pub fn keeps(run: &Run, premise: u32) -> bool {
-    (0..asked(premise)).all(|part| keeps_part(run, premise, part))
+    (0..parts(premise)).all(|part| keeps_part(run, premise, part))
 }
 
 /// How many things a premise asks.
-pub fn asked(premise: u32) -> usize {
+pub fn parts(premise: u32) -> usize {
     match premise {
         3..=5 => 3,
         7 => 2,

@@ -31,7 +31,7 @@ use Rattle.head_row.specs.Promises.{Acts}
 use Rattle.head_row.proofs.Fitting.{fits}
 use Rattle.head_step.specs.Sized.{InputSized}
 use Rattle.head_ranges.proofs.Back.{row-of-record}
-use Rattle.head_causes.proofs.Taken.{Taken, accepted-step}
+use Rattle.head_causes.proofs.Taken.{AcceptedStep, accepted-step}
 use Rattle.head_result.specs.Result.{IsResult}
 use Rattle.board_c.specs.Numbers.{AreNumbers, IsCorrection}
 
@@ -53,7 +53,7 @@ module _ (w : List ℕ) (i : Input) where
   acts r = effect (withLast r (reading (i .reading))) (actionOf i)
 
   module _ (long : length w ≡ 80) (v : Verdict) (is : v ≡ rowStep w i .verdict) (e : v ≡ Accepted) where
-    taken : Taken w i
+    taken : AcceptedStep w i
     taken = accepted-step w i (sym is ∙ e)
 
     record-in-range : InRange (recordIn w)

@@ -15,6 +15,7 @@ use numbers::fresh_verdict;
 use numbers::input_in;
 use numbers::row_length;
 use protocol::Counted;
+use protocol::Row;
 use protocol::Verdict;
 ghost use mathlib.Core.Path.{_≡_};
 ghost use mathlib.Core.List.{_∷_, []};
@@ -24,7 +25,7 @@ ghost use Rattle.protocol.specs.Board.{verdictNumber, freshVerdict, freshRow, i
 
 // Makes a fresh record of head own of n, of which at most f are faulty. A refusal leaves the memory as it was.
 #[no_mangle]
-pub extern "C" fn daisarnica_fresh(head: &mut [u32; 80], n: u32, f: u32, own: u32) -> u32
+pub extern "C" fn daisarnica_fresh(head: &mut Row, n: u32, f: u32, own: u32) -> u32
     ensures { λ k. ⌜ (k ≡ verdictNumber (freshVerdict n f own)) × (now (head .exit) ≡ freshRow (now (head .entry)) n f own) ⌝ }
 {
     let v = fresh_verdict(n, f, own);
@@ -39,11 +40,7 @@ pub extern "C" fn daisarnica_fresh(head: &mut [u32; 80], n: u32, f: u32, own: u3
 
 // Takes an action. The record becomes the one after it, or stays as it was if the action is refused.
 #[no_mangle]
-pub extern "C" fn daisarnica_action(
-    head: &mut [u32; 80],
-    input: &[u32; 7],
-    frame: &mut [u32; 5],
-) -> u32
+pub extern "C" fn daisarnica_action(head: &mut Row, input: &[u32; 7], frame: &mut [u32; 5]) -> u32
     ensures { λ k. ⌜ (k ≡ verdictNumber (rowStep (now (head .entry)) (inputIn (now (input .entry))) .verdict))
         × (now (head .exit) ≡ rowAfter (now (head .entry)) (rowStep (now (head .entry)) (inputIn (now (input .entry)))))
         × (now (frame .exit) ≡ frameNumbers (rowStep (now (head .entry)) (inputIn (now (input .entry))) .frame)) ⌝ }
@@ -66,7 +63,7 @@ pub extern "C" fn daisarnica_action(
 
 // Reads how the round ended: outcome, candidate, adjuster, adjustment, start reading.
 #[no_mangle]
-pub extern "C" fn daisarnica_result(head: &[u32; 80], result: &mut [u32; 5]) -> u32
+pub extern "C" fn daisarnica_result(head: &Row, result: &mut [u32; 5]) -> u32
     ensures { λ k. ⌜ (k ≡ verdictNumber (rowVerdict (now (head .entry))))
         × (now (result .exit) ≡ resultIf (rowVerdict (now (head .entry))) (recordIn (now (head .entry)))) ⌝ }
 {
@@ -82,7 +79,7 @@ pub extern "C" fn daisarnica_result(head: &[u32; 80], result: &mut [u32; 5]) -> 
 
 // Reads the correction: 0 unless the outcome is 2, and for a record outside its ranges.
 #[no_mangle]
-pub extern "C" fn daisarnica_correction(head: &[u32; 80]) -> i64
+pub extern "C" fn daisarnica_correction(head: &Row) -> i64
     ensures { λ z. ⌜ z ≡ correctionIf (rowVerdict (now (head .entry))) (recordIn (now (head .entry))) ⌝ }
 {
     row_length(*head);

@@ -2,6 +2,7 @@
 use head_ranges::heads_fit;
 use protocol::Cause;
 use protocol::Input;
+use protocol::Row;
 use protocol::Sent;
 use protocol::Verdict;
 ghost use mathlib.Core.Path.{_≡_};
@@ -13,7 +14,7 @@ ghost use Rattle.protocol.specs.Board.{freshVerdict, inputIn};
 ghost use Rattle.board_c.specs.Numbers.{AreNumbers, IsCorrection};
 
 // That a row has eighty numbers, which a reference to one does not say by itself. Nothing of it is left in the machine code.
-pub fn row_length(row: [u32; 80]) -> usize
+pub fn row_length(row: Row) -> usize
     ensures { λ n. ⌜ (n ≡ 80) × (length row ≡ 80) ⌝ }
 {
     80

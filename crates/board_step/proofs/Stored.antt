@@ -25,11 +25,11 @@ use Rattle.board_step.proofs.after_of as after-of
 use Rattle.board_step.proofs.answer_of as answer-of
 
 module _ {M : Type 1} (𝓤 : URA M) (H : Heap 𝓤) (A : Atoms 𝓤) (at-mem : Memory → SProp 𝓤) (run : Routine → Fun 𝓤) where
-  abbrev pub After : Contract 𝓤
-  After = tripleOf 𝓤 H A after-of.signature (after-of.spec 𝓤 H A at-mem run)
+  abbrev pub AfterContract : Contract 𝓤
+  AfterContract = tripleOf 𝓤 H A after-of.signature (after-of.spec 𝓤 H A at-mem run)
 
-  abbrev pub Answers : Contract 𝓤
-  Answers = tripleOf 𝓤 H A answer-of.signature (answer-of.spec 𝓤 H A at-mem run)
+  abbrev pub AnswerContract : Contract 𝓤
+  AnswerContract = tripleOf 𝓤 H A answer-of.signature (answer-of.spec 𝓤 H A at-mem run)
 
   pub after-told : (s : Stepped) (g : HeadRecord) → ent 𝓤 (ensured 𝓤 H A after-of.ended (after-of.clauses 𝓤 H A at-mem run) tt (s, tt) tt g) (fact 𝓤 (g ≡ s .after))
   after-told s g = exE 𝓤 _ (λ ws. snd∗ 𝓤 (sem 𝓤 H A (lasts after-of.ended tt (s, tt) ws)) (fact 𝓤 (g ≡ s .after)))
@@ -37,15 +37,15 @@ module _ {M : Type 1} (𝓤 : URA M) (H : Heap 𝓤) (A : Atoms 𝓤) (at-mem : 
   pub answer-told : (s : Stepped) (a : Answer) → ent 𝓤 (ensured 𝓤 H A answer-of.ended (answer-of.clauses 𝓤 H A at-mem run) tt (s, tt) tt a) (fact 𝓤 (a ≡ answerOf s))
   answer-told s a = exE 𝓤 _ (λ ws. snd∗ 𝓤 (sem 𝓤 H A (lasts answer-of.ended tt (s, tt) ws)) (fact 𝓤 (a ≡ answerOf s)))
 
-  abbrev pub to-after : Stepped → Val → After .Ghost
+  abbrev pub to-after : Stepped → Val → AfterContract .Ghost
   to-after s v = ((tt, tt, tt, (s, tt), (v ∷ [], tt)), tt)
 
-  abbrev pub to-answer : Stepped → Val → Answers .Ghost
+  abbrev pub to-answer : Stepped → Val → AnswerContract .Ghost
   to-answer s v = ((tt, tt, tt, (s, tt), (v ∷ [], tt)), tt)
 
   module _ (W : Given 𝓤 H A) (s : Stepped) (v : Val) where
-    pub goes-after : ent 𝓤 (sem 𝓤 H A (S.the-row .own s (v ∷ []))) (After .pre (to-after s v))
+    pub goes-after : ent 𝓤 (sem 𝓤 H A (S.the-row .own s (v ∷ []))) (AfterContract .pre (to-after s v))
     goes-after = qed W (‵ (S.the-row .own s (v ∷ [])) ∷ []) ∵ nothing ! $ move ! (1 ∷ 0 ∷ []) $ join ! $ nothing ! $ join ! $ frame ! $ done !
 
-    pub goes-answer : ent 𝓤 (sem 𝓤 H A (S.the-row .own s (v ∷ []))) (Answers .pre (to-answer s v))
+    pub goes-answer : ent 𝓤 (sem 𝓤 H A (S.the-row .own s (v ∷ []))) (AnswerContract .pre (to-answer s v))
     goes-answer = qed W (‵ (S.the-row .own s (v ∷ [])) ∷ []) ∵ nothing ! $ move ! (1 ∷ 0 ∷ []) $ join ! $ nothing ! $ join ! $ frame ! $ done !

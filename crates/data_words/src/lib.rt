@@ -10,9 +10,7 @@ use protocol::Entry;
 use protocol::Reading;
 use protocol::RealTime;
 use protocol::Setting;
-
-// 2²⁸: "Times are microseconds in 28 bits"
-const TIMES: u32 = 268435456;
+use protocol::TIME_LIMIT;
 
 // "the top four bits are the kind"
 pub fn kind_of(w: u32) -> u32
@@ -24,7 +22,7 @@ pub fn kind_of(w: u32) -> u32
 pub fn is_time(x: u32) -> bool
     ensures { λ r. ⌜ r ≡ isTime x ⌝ }
 {
-    x < TIMES
+    x < TIME_LIMIT
 }
 
 // "First word, kind 1: bits 27–20 n (heads, 2..16), 19–16 f, 15–0 one bit per correct head"
@@ -86,8 +84,8 @@ pub fn second_word_fits(b: u32) -> bool
 pub fn entry_of(t: u32, a: u32, w: u32) -> Entry
     ensures { λ r. ⌜ r ≡ entryOf t a w ⌝ }
 {
-    let time = RealTime(t % TIMES);
-    let reading = Reading(a % TIMES);
+    let time = RealTime(t % TIME_LIMIT);
+    let reading = Reading(a % TIME_LIMIT);
     Entry {
         time,
         reading,

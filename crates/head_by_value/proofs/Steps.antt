@@ -30,7 +30,7 @@ use Rattle.head_row.proofs.Fitting.{fits}
 use Rattle.head_step.specs.Sized.{InputSized}
 use Rattle.head_ranges.proofs.Back.{range-of-row, record-of-row}
 use Rattle.head_causes.proofs.Verdicts.{out-of-range}
-use Rattle.head_causes.proofs.Taken.{Taken, accepted-step}
+use Rattle.head_causes.proofs.Taken.{AcceptedStep, accepted-step}
 use Rattle.head_record.specs.Bytes.{Holds, FrameSized, StandsFor}
 
 -- a row of eighty numbers is that of a record with sixteen senders
@@ -77,7 +77,7 @@ module _ (r : HeadRecord) (i : Input) (row : List ℕ) (is-row : row ≡ rowOf r
     refused-step c e = sym (step-answers r i .refused-unchanged c (sym same-verdict ∙ sym is ∙ e))
 
     module _ (e : v ≡ Accepted) where
-      taken : Taken row i
+      taken : AcceptedStep row i
       taken = accepted-step row i (sym is ∙ e)
 
       ranged : recordInRange r ≡ true

@@ -2,6 +2,7 @@
 use protocol::Cause;
 use protocol::Counted;
 use protocol::Reading;
+use protocol::TIME_LIMIT;
 ghost use mathlib.Core.Path.{_≡_};
 ghost use Rattle.protocol.specs.Counter.{counterReading};
 
@@ -10,7 +11,7 @@ pub fn counter_reading(counter: u32, base: u32) -> Counted
     ensures { λ k. ⌜ k ≡ counterReading counter base ⌝ }
 {
     let t = std::num::wrapping_sub_u32(counter, base);
-    if t < 268435456 {
+    if t < TIME_LIMIT {
         Counted::Counts(Reading(t))
     } else {
         Counted::OutOfRange(Cause::CounterTooFar)

@@ -14,18 +14,18 @@ use Rattle.protocol.specs.Board.{rowStep}
 use Rattle.protocol.proofs.Fits.{not-accepted}
 use Rattle.protocol.proofs.Valid.{passed}
 
-pub record Taken (w : List ℕ) (i : Input) : Type 0 where
+pub record AcceptedStep (w : List ℕ) (i : Input) : Type 0 where
   pub row-in-range : rowInRange w ≡ true
   pub input-fits : inputFits (getD w 7 0) i ≡ true
   pub is-open : isClosed (recordIn w) (actionOf i) ≡ false
   pub takes : takeAction (recordIn w) (reading (i .reading)) true (actionOf i) ≡ effect (withLast (recordIn w) (reading (i .reading))) (actionOf i)
   pub answer : rowStep w i ≡ effect (withLast (recordIn w) (reading (i .reading))) (actionOf i)
 
-pub accepted-step : (w : List ℕ) (i : Input) → rowStep w i .verdict ≡ Accepted → Taken w i
+pub accepted-step : (w : List ℕ) (i : Input) → rowStep w i .verdict ≡ Accepted → AcceptedStep w i
 unfolding rowStep step rowInRange recordIn
 accepted-step w i e = go (rowFits w) refl (recordInRange (recordIn w)) refl (inputFits (getD w 7 0) i) refl
   where
-    go : (a : Bool) → rowFits w ≡ a → (b : Bool) → recordInRange (recordIn w) ≡ b → (c : Bool) → inputFits (getD w 7 0) i ≡ c → Taken w i
+    go : (a : Bool) → rowFits w ≡ a → (b : Bool) → recordInRange (recordIn w) ≡ b → (c : Bool) → inputFits (getD w 7 0) i ≡ c → AcceptedStep w i
     go false u b v c z = not-accepted _ (rw u at e)
     go true u false v c z = not-accepted _ (rw (u, v) at e)
     go true u true v false z = not-accepted _ (rw (u, v, z) at e)

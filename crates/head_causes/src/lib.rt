@@ -4,6 +4,7 @@ use head_open::closed_by;
 use head_ranges::row_in_range;
 use protocol::Cause;
 use protocol::Input;
+use protocol::Row;
 use protocol::Verdict;
 ghost use mathlib.Core.Path.{_≡_};
 ghost use mathlib.Core.Bool.{_&&_, _||_};
@@ -25,7 +26,7 @@ fn is_closed(i: Input, marks: u32, own: u32) -> bool
 }
 
 // "One head: 10, 6, 8, 9"
-pub fn row_verdict(row: &[u32; 80], i: Input) -> Verdict
+pub fn row_verdict(row: &Row, i: Input) -> Verdict
     ensures { λ v. ⌜ v ≡ rowStep (now (row .entry)) i .verdict ⌝ }
 {
     if row_in_range(row) {

@@ -1,4 +1,5 @@
 // How many readings a head's row holds, and the median of its vote readings by counting ranks.
+use protocol::Row;
 ghost use mathlib.Core.Path.{_≡_};
 ghost use mathlib.Core.Bool.{true};
 ghost use Prim.Native.Nat.{_-_, _≤_, _<_};
@@ -11,7 +12,7 @@ ghost use Rattle.head_median.specs.Ranks.{bit, orderedAt, isBelow, isUpt
 ghost use Rattle.head_median.specs.Readings.{headsIn, holds, heldIn, readingsIn};
 
 // The heads of a row, of which there are at most 16.
-fn heads_in(row: &[u32; 80]) -> usize
+fn heads_in(row: &Row) -> usize
     ensures { λ n. ⌜ (n ≡ headsIn (now (row .entry))) × (n ≤ 16) ⌝ }
 {
     let n = row[7];
@@ -26,7 +27,7 @@ fn is_held(y: u32) -> u32
 }
 
 // How many of the heads' numbers from number `from` on are readings.
-fn readings_held(row: &[u32; 80], from: usize) -> u32
+fn readings_held(row: &Row, from: usize) -> u32
     requires { ⌜ from ≤ 64 ⌝ }
     ensures { λ k. ⌜ k ≡ heldIn (λ _. true) (now (row .entry)) from (headsIn (now (row .entry))) ⌝ }
 {
@@ -40,13 +41,13 @@ fn readings_held(row: &[u32; 80], from: usize) -> u32
     k
 }
 
-pub fn starts_held(row: &[u32; 80]) -> u32
+pub fn starts_held(row: &Row) -> u32
     ensures { λ k. ⌜ Reads startsHeld (now (row .entry)) k ⌝ }
 {
     readings_held(row, 16)
 }
 
-pub fn votes_held(row: &[u32; 80]) -> u32
+pub fn votes_held(row: &Row) -> u32
     ensures { λ k. ⌜ Reads (λ (r : HeadRecord). length (voteReadings r (r .n))) (now (row .entry)) k ⌝ }
 {
     readings_held(row, 32)
@@ -75,7 +76,7 @@ fn is_upto(y: u32, x: u32) -> u32
 
 // Whether x is the number of a reading that stands at an index of the vote readings in order: those below it are no more
 // than the index, those up to it are more.
-fn stands_at(row: &[u32; 80], x: u32, index: u32) -> bool
+fn stands_at(row: &Row, x: u32, index: u32) -> bool
     ensures { λ b. ⌜ b ≡ holds (covers index (readingsIn (now (row .entry)) (headsIn (now (row .entry))))) x ⌝ }
 {
     if x == 0 {
@@ -95,7 +96,7 @@ fn stands_at(row: &[u32; 80], x: u32, index: u32) -> bool
 }
 
 // The vote reading at an index of the readings in order; 0 beyond them.
-fn vote_at(row: &[u32; 80], index: u32) -> u32
+fn vote_at(row: &Row, index: u32) -> u32
     ensures { λ x. ⌜ x ≡ orderedAt index (readingsIn (now (row .entry)) (headsIn (now (row .entry)))) ⌝ }
 {
     let heads = heads_in(row);
@@ -111,7 +112,7 @@ fn vote_at(row: &[u32; 80], index: u32) -> u32
 }
 
 // The median of the vote readings; 0 where none is held.
-pub fn vote_median(row: &[u32; 80]) -> u32
+pub fn vote_median(row: &Row) -> u32
     ensures { λ x. ⌜ Reads (λ (r : HeadRecord). median (voteReadings r (r .n))) (now (row .entry)) x ⌝ }
 {
     let k = votes_held(row);

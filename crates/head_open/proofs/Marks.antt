@@ -57,15 +57,15 @@ one-more (b ∷ l) zero h e = rw e (omega arith)
 one-more (b ∷ l) (suc k) h e = let ih = one-more l k (le-of-suc-le-suc h) e in rw (pow-succ' 2 k) (omega arith)
 
 -- A HEAD'S MARKS, in the order of their weights
-abbrev pub marksOf : HeadRecord → List Bool
-marksOf r =
+abbrev pub sevenMarks : HeadRecord → List Bool
+sevenMarks r =
     r .started ∷ r .confirmed ∷ r .vote .turn ∷ r .vote .closed ∷ r .adjust .turn ∷ r .adjust .closed ∷ isNumber (r .vote .choice) ∷ []
 
 times : (b : Bool) (w : ℕ) → markNumber b w ≡ w * markNumber b 1
 times true w = omega arith
 times false w = omega arith
 
-number-is : (r : HeadRecord) → marksNumber r ≡ weightOf (marksOf r)
+number-is : (r : HeadRecord) → marksNumber r ≡ weightOf (sevenMarks r)
 unfolding marksNumber
 number-is r =
     rw (
@@ -78,11 +78,11 @@ number-is r =
     ) (omega arith)
 
 pub marks-below-128 : (r : HeadRecord) → marksNumber r < 128
-marks-below-128 r = rw (number-is r) (weight-below (marksOf r))
+marks-below-128 r = rw (number-is r) (weight-below (sevenMarks r))
 
 -- mark k has weight 2 ^ k
-pub has-mark : (r : HeadRecord) (k : ℕ) → k < 7 → hasMark (marksNumber r) (2 ^ k) ≡ getD (marksOf r) k false
-has-mark r k h = rw (number-is r) (has-at (marksOf r) k h)
+pub has-mark : (r : HeadRecord) (k : ℕ) → k < 7 → hasMark (marksNumber r) (2 ^ k) ≡ getD (sevenMarks r) k false
+has-mark r k h = rw (number-is r) (has-at (sevenMarks r) k h)
 
 pub has-started : (r : HeadRecord) → hasMark (marksNumber r) 1 ≡ r .started
 has-started r = has-mark r 0 (lit< tt)
@@ -109,13 +109,13 @@ has-candidate r = has-mark r 6 (lit< tt)
 abbrev pub withMark : ℕ → ℕ → ℕ
 withMark m weight = cond (hasMark m weight) m ((m + weight) % 2 ^ 32)
 
-pub with-mark : (r s : HeadRecord) (k : ℕ) → k < 7 → marksOf s ≡ set (marksOf r) k true → withMark (marksNumber r) (2 ^ k) ≡ marksNumber s
+pub with-mark : (r s : HeadRecord) (k : ℕ) → k < 7 → sevenMarks s ≡ set (sevenMarks r) k true → withMark (marksNumber r) (2 ^ k) ≡ marksNumber s
 with-mark r s k h e =
-    let after : marksNumber s ≡ weightOf (set (marksOf r) k true) = number-is s ∙ ap weightOf e in
-    cases (getD (marksOf r) k false)
-    (λ had. rw (has-mark r k h, had) (number-is r ∙ sym (after ∙ ap weightOf (set-again (marksOf r) k had))))
+    let after : marksNumber s ≡ weightOf (set (sevenMarks r) k true) = number-is s ∙ ap weightOf e in
+    cases (getD (sevenMarks r) k false)
+    (λ had. rw (has-mark r k h, had) (number-is r ∙ sym (after ∙ ap weightOf (set-again (sevenMarks r) k had))))
     (λ lacked.
-    let sum : marksNumber r + 2 ^ k ≡ marksNumber s = rw (number-is r) (sym (after ∙ one-more (marksOf r) k h lacked)) in
+    let sum : marksNumber r + 2 ^ k ≡ marksNumber s = rw (number-is r) (sym (after ∙ one-more (sevenMarks r) k h lacked)) in
     let small = marks-below-128 s in
     rw (has-mark r k h, lacked, sum) (omega arith))
 

@@ -1,4 +1,6 @@
 // Whether a row of numbers holds a record in its ranges.
+use protocol::Row;
+use protocol::TIME_LIMIT;
 ghost use mathlib.Core.Path.{_≡_};
 ghost use mathlib.Core.Bool.{cond, _&&_, _||_};
 ghost use Prim.Native.Nat.{_+_, _%_, _≤_, _<_};
@@ -22,13 +24,13 @@ fn marks_agree(m: u32, candidate: u32) -> bool
     m / 64 == one_if_less(0, candidate)
 }
 
-fn spare_is_zero(row: &[u32; 80]) -> bool
+fn spare_is_zero(row: &Row) -> bool
     ensures { λ b. ⌜ b ≡ spareIsZero (now (row .entry)) ⌝ }
 {
     (row[10] | (row[11] | (row[12] | (row[13] | (row[14] | row[15]))))) == 0
 }
 
-fn row_fits(row: &[u32; 80]) -> bool
+fn row_fits(row: &Row) -> bool
     ensures { λ b. ⌜ b ≡ rowFits (now (row .entry)) ⌝ }
 {
     marks_agree(row[1], row[2]) && spare_is_zero(row)
@@ -51,7 +53,7 @@ fn own_fits(n: u32, f: u32, own: u32) -> bool
 fn times_fit(last: u32, adjustment: u32, adjuster: u32) -> bool
     ensures { λ b. ⌜ b ≡ (isTime last && (isTime adjustment && (isNumber (numberIn adjuster) || eqb adjustment 0))) ⌝ }
 {
-    last < 268435456 && (adjustment < 268435456 && (adjuster != 0 || adjustment == 0))
+    last < TIME_LIMIT && (adjustment < TIME_LIMIT && (adjuster != 0 || adjustment == 0))
 }
 
 // A choice, one more than itself or 0 for none, and the number of frames sent for it.
@@ -81,12 +83,12 @@ fn greatest(n: u32, p: u32, x: u32) -> u32
 }
 
 // How many of the four numbers kept of sender p are greater than the greatest.
-fn numbers_beyond(row: &[u32; 80], p: u32) -> u32
+fn numbers_beyond(row: &Row, p: u32) -> u32
     requires { ⌜ p < 16 ⌝ }
     ensures { λ k. ⌜ k ≡ beyond (now (row .entry)) p ⌝ }
 {
     let i = p as usize;
-    let reading = greatest(row[7], p, 268435456);
+    let reading = greatest(row[7], p, TIME_LIMIT);
     let serial = greatest(row[7], p, 16);
     one_if_less(reading, row[16 + i])
         + one_if_less(reading, row[32 + i])
@@ -94,7 +96,7 @@ fn numbers_beyond(row: &[u32; 80], p: u32) -> u32
 }
 
 // A sum without branches, which takes several senders at once.
-fn senders_in_range(row: &[u32; 80]) -> bool
+fn senders_in_range(row: &Row) -> bool
     ensures { λ b. ⌜ b ≡ sendersInRange (recordIn (now (row .entry))) ⌝ }
 {
     let mut bad: u32 = 0;
@@ -107,7 +109,7 @@ fn senders_in_range(row: &[u32; 80]) -> bool
 }
 
 // Whether a row holds a record in its ranges (else cause 10).
-pub fn row_in_range(row: &[u32; 80]) -> bool
+pub fn row_in_range(row: &Row) -> bool
     ensures { λ b. ⌜ b ≡ rowInRange (now (row .entry)) ⌝ }
 {
     let n = row[7];

@@ -22,11 +22,11 @@ module _ (l : List Sender) where
   sender p = getD l p noSender
 
   -- the numbers of the senders below i written, and those senders kept
-  abbrev pub written : List ℕ → ℕ → List ℕ
-  written w zero = w
-  written w (suc i) = withNumbers (written w i) i (sender i)
+  abbrev pub writtenBelow : List ℕ → ℕ → List ℕ
+  writtenBelow w zero = w
+  writtenBelow w (suc i) = withNumbers (writtenBelow w i) i (sender i)
 
-  pub next-written : (w row after : List ℕ) (i : ℕ) → row ≡ written w i → after ≡ withNumbers row i (sender i) → after ≡ written w (i + 1)
+  pub next-written : (w row after : List ℕ) (i : ℕ) → row ≡ writtenBelow w i → after ≡ withNumbers row i (sender i) → after ≡ writtenBelow w (i + 1)
   next-written w row after i is e = rw add-one (e ∙ ap (λ (v : List ℕ). withNumbers v i (sender i)) is)
 
   abbrev kept : ℕ → List Sender
@@ -41,15 +41,15 @@ module _ (l : List Sender) where
   kept-at zero h p lt = absurd (omega arith)
   kept-at (suc i) h p lt = fill-next sender (kept i) i (sender i) noSender (rw (size i) (omega arith)) refl (kept-at i (omega arith)) p (omega arith)
 
-  row-written : (r : HeadRecord) (i : ℕ) → i ≤ 16 → written (rowOf (bare r)) i ≡ rowOf (withSenders r (kept i))
+  row-written : (r : HeadRecord) (i : ℕ) → i ≤ 16 → writtenBelow (rowOf (bare r)) i ≡ rowOf (withSenders r (kept i))
   row-written r zero h = refl
   row-written r (suc i) h =
       ap (λ (w : List ℕ). withNumbers w i (sender i)) (row-written r i (omega arith))
       ∙ sender-written (withSenders r (kept i)) (size i) i (omega arith) (sender i)
 
-  pub all-written : length l ≡ 16 → (w after : List ℕ) (i : ℕ) → i ≡ 16 → after ≡ written w i → Completes w l after
+  pub all-written : length l ≡ 16 → (w after : List ℕ) (i : ℕ) → i ≡ 16 → after ≡ writtenBelow w i → Completes w l after
   all-written long w after i end e r is same =
-      e ∙ ap (λ (k : ℕ). written w k) end ∙ ap (λ (v : List ℕ). written v 16) is ∙ row-written r 16 (omega arith)
+      e ∙ ap (λ (k : ℕ). writtenBelow w k) end ∙ ap (λ (v : List ℕ). writtenBelow v 16) is ∙ row-written r 16 (omega arith)
       ∙ ap (λ (m : List Sender). rowOf (withSenders r m)) (all-kept ∙ same)
     where
       all-kept : kept 16 ≡ l

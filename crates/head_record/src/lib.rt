@@ -8,9 +8,12 @@ use protocol::HeadRecord;
 use protocol::OptNumber;
 use protocol::OptReading;
 use protocol::Phase;
+use protocol::ROW_NUMBERS;
 use protocol::Reading;
+use protocol::Row;
 use protocol::Sender;
 use protocol::Sent;
+use protocol::TIME_LIMIT;
 ghost use mathlib.Core.Path.{_≡_};
 ghost use mathlib.Core.List.{map};
 ghost use Prim.Native.Nat.{_%_, _<_, _≤_};
@@ -35,7 +38,13 @@ fn reading_plus_1(k: OptReading) -> u32
 {
     match k {
         OptReading::NoReading => 0,
-        OptReading::SomeReading(x) => { if x.0 < 268435456 { x.0 + 1 } else { 268435457 } }
+        OptReading::SomeReading(x) => {
+            if x.0 < TIME_LIMIT {
+                x.0 + 1
+            } else {
+                TIME_LIMIT + 1
+            }
+        }
     }
 }
 
@@ -61,14 +70,14 @@ fn marks_number(r: HeadRecord) -> u32
 }
 
 // The head's own numbers, and nothing kept by sender.
-fn bare_row(r: HeadRecord) -> [u32; 80]
+fn bare_row(r: HeadRecord) -> Row
     ensures { λ w. ⌜ w ≡ rowOf (bare r) ⌝ }
 {
     let vote = r.vote;
     let adjust = r.adjust;
     let candidate = vote.choice;
     let adjuster = adjust.choice;
-    let mut row = [0u32; 80];
+    let mut row = [0u32; ROW_NUMBERS];
     row[0] = r.last.0;
     row[1] = marks_number(r);
     row[2] = number_plus_1(candidate);
@@ -82,7 +91,7 @@ fn bare_row(r: HeadRecord) -> [u32; 80]
     row
 }
 
-fn put_sender(row: &mut [u32; 80], p: usize, k: Sender)
+fn put_sender(row: &mut Row, p: usize, k: Sender)
     requires { ⌜ p < 16 ⌝ }
     ensures { λ _. ⌜ now (row .exit) ≡ withNumbers (now (row .entry)) p k ⌝ }
 {
@@ -97,7 +106,7 @@ fn put_sender(row: &mut [u32; 80], p: usize, k: Sender)
 }
 
 // What is kept by sender, each number at its index.
-fn put_senders(row: &mut [u32; 80], senders: [Sender; 16])
+fn put_senders(row: &mut Row, senders: [Sender; 16])
     ensures { λ _. ⌜ Completes (now (row .entry)) senders (now (row .exit)) ⌝ }
 {
     let mut i: usize = 0;
@@ -109,7 +118,7 @@ fn put_senders(row: &mut [u32; 80], senders: [Sender; 16])
 }
 
 // The row of a record.
-pub fn row_of(r: HeadRecord) -> [u32; 80]
+pub fn row_of(r: HeadRecord) -> Row
     ensures { λ w. ⌜ w ≡ rowOf r ⌝ }
 {
     let senders = r.senders;
@@ -135,7 +144,7 @@ fn reading_in(w: u32) -> OptReading
     }
 }
 
-fn sender_in(row: &[u32; 80], p: usize) -> Sender
+fn sender_in(row: &Row, p: usize) -> Sender
     requires { ⌜ p < 16 ⌝ }
     ensures { λ k. ⌜ k ≡ cutSender (senderIn (now (row .entry)) p) ⌝ }
 {
@@ -151,7 +160,7 @@ fn sender_in(row: &[u32; 80], p: usize) -> Sender
     }
 }
 
-fn senders_in(row: &[u32; 80]) -> [Sender; 16]
+fn senders_in(row: &Row) -> [Sender; 16]
     ensures { λ l. ⌜ l ≡ map cutSender (table (senderIn (now (row .entry))) 0 16) ⌝ }
 {
     let first = sender_in(row, 0);
@@ -180,7 +189,7 @@ fn phase_in(marks: u32, turn: u32, closed: u32, choice: u32, sent: u32) -> Phase
 }
 
 // The record that a row in its ranges holds.
-pub fn record_in(row: &[u32; 80]) -> HeadRecord
+pub fn record_in(row: &Row) -> HeadRecord
     ensures { λ r. ⌜ Holds (now (row .entry)) r ⌝ }
 {
     let marks = row[1];

@@ -1,9 +1,10 @@
 // How a round ended for a head, read off its row.
 use head_open::has_mark;
+use protocol::Row;
 ghost use Rattle.head_result.specs.Result.{IsResult};
 
 // Outcome, candidate, adjuster, adjustment and start reading, the last four 0 unless the outcome is 2.
-pub fn result_numbers(row: &[u32; 80]) -> [u32; 5]
+pub fn result_numbers(row: &Row) -> [u32; 5]
     ensures { λ x. ⌜ IsResult (now (row .entry)) x ⌝ }
 {
     if has_mark(row[1], 32) {

@@ -1,13 +1,15 @@
 // A head's row of numbers before its first action.
+use protocol::ROW_NUMBERS;
+use protocol::Row;
 ghost use mathlib.Core.Path.{_≡_};
 ghost use Rattle.protocol.specs.Record.{fresh};
 ghost use Rattle.protocol.specs.Row.{rowOf};
 
 // The row of a head's fresh record.
-pub fn fresh_row(n: u32, f: u32, own: u32) -> [u32; 80]
+pub fn fresh_row(n: u32, f: u32, own: u32) -> Row
     ensures { λ w. ⌜ w ≡ rowOf (fresh n f own) ⌝ }
 {
-    let mut row = [0u32; 80];
+    let mut row = [0u32; ROW_NUMBERS];
     row[7] = n;
     row[8] = f;
     row[9] = own;

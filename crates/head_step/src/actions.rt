@@ -7,6 +7,7 @@ use crate::frames::propose;
 use crate::frames::vote;
 use head_open::has_mark;
 use head_open::with_mark;
+use protocol::Row;
 use protocol::Sent;
 ghost use mathlib.Core.Path.{_≡_};
 ghost use mathlib.Core.Bool.{_||_};
@@ -21,7 +22,7 @@ ghost use Rattle.protocol.specs.Step.{effect};
 ghost use Rattle.protocol.specs.Row.{readingPlus1};
 ghost use Rattle.head_row.specs.Promises.{Acts};
 
-pub fn start_sent(row: &mut [u32; 80]) -> Sent
+pub fn start_sent(row: &mut Row) -> Sent
     ensures { λ s. ⌜ Acts (λ (r : HeadRecord). effect r StartSent) (now (row .entry)) (now (row .exit)) s ⌝ }
 {
     row[1] = with_mark(row[1], 1);
@@ -33,7 +34,7 @@ pub fn start_sent(row: &mut [u32; 80]) -> Sent
     }
 }
 
-pub fn start_delivered(row: &mut [u32; 80], p: u32) -> Sent
+pub fn start_delivered(row: &mut Row, p: u32) -> Sent
     ensures { λ s. ⌜ (p < 16 → Acts (λ (r : HeadRecord). effect r (StartDelivered p)) (now (row .entry)) (now (row .exit)) s) ⌝ }
 {
     if has_mark(row[1], 32) {
@@ -43,14 +44,14 @@ pub fn start_delivered(row: &mut [u32; 80], p: u32) -> Sent
     lead(row)
 }
 
-pub fn start_confirmed(row: &mut [u32; 80]) -> Sent
+pub fn start_confirmed(row: &mut Row) -> Sent
     ensures { λ s. ⌜ Acts (λ (r : HeadRecord). effect r StartConfirmed) (now (row .entry)) (now (row .exit)) s ⌝ }
 {
     row[1] = with_mark(row[1], 2);
     no_frame()
 }
 
-pub fn vote_turn(row: &mut [u32; 80]) -> Sent
+pub fn vote_turn(row: &mut Row) -> Sent
     ensures { λ s. ⌜ Acts (λ (r : HeadRecord). effect r VoteTurn) (now (row .entry)) (now (row .exit)) s ⌝ }
 {
     row[1] = with_mark(row[1], 4);
@@ -71,7 +72,7 @@ fn outranks(c: u32, held: u32) -> bool
     held == 0 || std::num::wrapping_add_u32(c, 1) < held
 }
 
-pub fn vote_delivered(row: &mut [u32; 80], p: u32, serial: u32, c: u32, x: u32) -> Sent
+pub fn vote_delivered(row: &mut Row, p: u32, serial: u32, c: u32, x: u32) -> Sent
     ensures { λ s. ⌜ (p < 16 → serial < 16 → c < 16 → (y : OptReading) → x ≡ readingPlus1 y → readingOr0 y < 2 ^ 28
         → Acts (λ (r : HeadRecord). effect r (VoteDelivered p serial c y)) (now (row .entry)) (now (row .exit)) s) ⌝ }
 {
@@ -87,21 +88,21 @@ pub fn vote_delivered(row: &mut [u32; 80], p: u32, serial: u32, c: u32, x: u32) 
     no_frame()
 }
 
-pub fn vote_close(row: &mut [u32; 80]) -> Sent
+pub fn vote_close(row: &mut Row) -> Sent
     ensures { λ s. ⌜ Acts (λ (r : HeadRecord). effect r VoteClose) (now (row .entry)) (now (row .exit)) s ⌝ }
 {
     row[1] = with_mark(row[1], 8);
     no_frame()
 }
 
-pub fn adjust_turn(row: &mut [u32; 80]) -> Sent
+pub fn adjust_turn(row: &mut Row) -> Sent
     ensures { λ s. ⌜ Acts (λ (r : HeadRecord). effect r AdjustTurn) (now (row .entry)) (now (row .exit)) s ⌝ }
 {
     row[1] = with_mark(row[1], 16);
     propose(row)
 }
 
-pub fn adjust_delivered(row: &mut [u32; 80], p: u32, serial: u32, a: u32, x: u32) -> Sent
+pub fn adjust_delivered(row: &mut Row, p: u32, serial: u32, a: u32, x: u32) -> Sent
     ensures { λ s. ⌜ (p < 16 → serial < 16 → a < 16
         → Acts (λ (r : HeadRecord). effect r (AdjustDelivered p serial a (reading x))) (now (row .entry)) (now (row .exit)) s) ⌝ }
 {
@@ -116,7 +117,7 @@ pub fn adjust_delivered(row: &mut [u32; 80], p: u32, serial: u32, a: u32, x: u32
     no_frame()
 }
 
-pub fn adjust_close(row: &mut [u32; 80]) -> Sent
+pub fn adjust_close(row: &mut Row) -> Sent
     ensures { λ s. ⌜ Acts (λ (r : HeadRecord). effect r AdjustClose) (now (row .entry)) (now (row .exit)) s ⌝ }
 {
     row[1] = with_mark(row[1], 32);

@@ -4,6 +4,7 @@ use head_median::vote_median;
 use head_median::votes_held;
 use head_open::has_mark;
 use head_open::with_mark;
+use protocol::Row;
 use protocol::Sent;
 ghost use mathlib.Core.Path.{_≡_};
 ghost use mathlib.Core.Bool.{not, _&&_};
@@ -33,7 +34,7 @@ pub fn head_index(p: u32) -> usize
 }
 
 // "A vote carries the candidate and h's own start reading of it, or the mark "none"; it is also h's own vote reading"
-pub fn vote(row: &mut [u32; 80], c: u32) -> Sent
+pub fn vote(row: &mut Row, c: u32) -> Sent
     ensures { λ s. ⌜ (c < 16 → Acts (vote c) (now (row .entry)) (now (row .exit)) s) ⌝ }
 {
     let serial = row[3];
@@ -52,7 +53,7 @@ pub fn vote(row: &mut [u32; 80], c: u32) -> Sent
 }
 
 // An adjust carries adjuster and adjustment.
-pub fn adjust(row: &mut [u32; 80], a: u32, x: u32) -> Sent
+pub fn adjust(row: &mut Row, a: u32, x: u32) -> Sent
     ensures { λ s. ⌜ (a < 16 → Acts (adjust a (reading x)) (now (row .entry)) (now (row .exit)) s) ⌝ }
 {
     let serial = row[5];
@@ -75,14 +76,14 @@ fn waits(marks: u32) -> bool
 }
 
 // "and at least f + 1 start readings held"
-fn may_lead(row: &[u32; 80]) -> bool
+fn may_lead(row: &Row) -> bool
     ensures { λ b. ⌜ Reads mayLead (now (row .entry)) b ⌝ }
 {
     waits(row[1]) && row[8] < starts_held(row)
 }
 
 // "After 2 and 4: .. h becomes its own candidate and votes"
-pub fn lead(row: &mut [u32; 80]) -> Sent
+pub fn lead(row: &mut Row) -> Sent
     ensures { λ s. ⌜ Acts lead (now (row .entry)) (now (row .exit)) s ⌝ }
 {
     if may_lead(row) {
@@ -93,14 +94,14 @@ pub fn lead(row: &mut [u32; 80]) -> Sent
 }
 
 // 7: "With a candidate, no adjuster and at least one vote reading"
-fn may_adjust(row: &[u32; 80]) -> bool
+fn may_adjust(row: &Row) -> bool
     ensures { λ b. ⌜ Reads mayAdjust (now (row .entry)) b ⌝ }
 {
     row[2] != 0 && (row[4] == 0 && 1 <= votes_held(row))
 }
 
 // "h becomes adjuster, takes the median of the vote readings as adjustment and sends both"
-pub fn propose(row: &mut [u32; 80]) -> Sent
+pub fn propose(row: &mut Row) -> Sent
     ensures { λ s. ⌜ Acts propose (now (row .entry)) (now (row .exit)) s ⌝ }
 {
     if may_adjust(row) {

@@ -13,6 +13,7 @@ use actions::vote_delivered;
 use actions::vote_turn;
 use frames::no_frame;
 use protocol::Input;
+use protocol::Row;
 use protocol::Sent;
 ghost use mathlib.Core.Path.{_≡_};
 ghost use mathlib.Core.Bool.{cond};
@@ -35,7 +36,7 @@ fn reading_plus_1(none: bool, carried: u32) -> u32
 }
 
 // What an accepted action does: "Every accepted action makes its reading the last reading".
-pub fn effect(row: &mut [u32; 80], i: Input) -> Sent
+pub fn effect(row: &mut Row, i: Input) -> Sent
     ensures { λ s. ⌜ (InputSized i
         → Acts (λ (r : HeadRecord). effect (withLast r (reading (i .reading))) (actionOf i)) (now (row .entry)) (now (row .exit)) s) ⌝ }
 {

@@ -2,6 +2,7 @@
 use data_words::is_correct;
 use head_open::has_mark;
 use protocol::Judged;
+use protocol::Row;
 use protocol::Setting;
 use sheet_state::head_index;
 ghost use mathlib.Core.Path.{_≡_};
@@ -48,7 +49,7 @@ fn has_ended(m: u32) -> bool
 }
 
 // "4. Every correct head takes actions 6, 7 and 9"
-pub fn premise_4(g: Setting, heads: &[[u32; 80]; 16]) -> bool
+pub fn premise_4(g: Setting, heads: &[Row; 16]) -> bool
     ensures { λ b. ⌜ ((ws : List ℕ) (i : ℕ) (s : History) → Stands ws i s (now (heads .entry)) → g ≡ settingAt ws → b ≡ premise4 g s) ⌝ }
 {
     let mut q: u8 = 0;

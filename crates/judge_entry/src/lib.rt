@@ -9,6 +9,7 @@ use judge_premise_3::start_delivered_breaks;
 use judge_premises_5_to_8::close_breaks;
 use judge_premises_5_to_8::frame_breaks;
 use protocol::Entry;
+use protocol::Row;
 use protocol::Setting;
 use sheet_state::head_index;
 ghost use mathlib.Core.Path.{_≡_};
@@ -41,7 +42,7 @@ pub fn keeps_premise_2(g: Setting, e: Entry, gains: &mut [i64; 16], losses: &mut
 pub fn breaks(
     g: Setting,
     e: Entry,
-    heads: &[[u32; 80]; 16],
+    heads: &[Row; 16],
     received: &mut [u16; 512],
     times: &mut [u32; 256],
     found: &mut [u8; 16],

@@ -2,7 +2,9 @@
 use data_words::is_correct;
 use head_open::has_mark;
 use protocol::Entry;
+use protocol::Row;
 use protocol::Setting;
+use protocol::TIME_LIMIT;
 use sheet_state::head_index;
 ghost use mathlib.Core.Path.{_≡_};
 ghost use mathlib.Core.Bool.{cond, _&&_};
@@ -41,7 +43,7 @@ fn start_within(g: Setting, times: &[u32; 256], v: u8) -> bool
     ensures { λ b. ⌜ ((s : History) → now (times .entry) ≡ startTimes s → v < 16 → g .n ≤ 16 → ((q : ℕ) → lastStart s v q < 2 ^ 28)
         → b ≡ startWithin g v s) ⌝ }
 {
-    let mut first: u32 = 268435457;
+    let mut first: u32 = TIME_LIMIT + 1;
     let mut last: u32 = 1;
     let mut q: u8 = 0;
     while q < g.n {
@@ -73,7 +75,7 @@ pub fn start_reached(g: Setting, times: &[u32; 256], v: u8) -> bool
 pub fn start_delivered_breaks(
     g: Setting,
     e: Entry,
-    heads: &[[u32; 80]; 16],
+    heads: &[Row; 16],
     times: &mut [u32; 256],
 ) -> usize
     ensures { λ k. ⌜ ((ws : List ℕ) (i : ℕ) (s : History) → Stands ws i s (now (heads .entry)) → g ≡ settingAt ws → e ≡ entryAt ws i

@@ -5,6 +5,7 @@ use data_words::is_correct;
 use head_open::has_mark;
 use judge_premise_3::start_reached;
 use protocol::Entry;
+use protocol::Row;
 use protocol::Setting;
 use sheet_state::frame_index;
 use sheet_state::head_index;
@@ -53,7 +54,7 @@ fn head_reached(
     g: Setting,
     phase: usize,
     p: u8,
-    heads: &[[u32; 80]; 16],
+    heads: &[Row; 16],
     received: &[u16; 512],
     times: &[u32; 256],
 ) -> bool
@@ -81,7 +82,7 @@ fn head_reached(
 fn phase_reached(
     g: Setting,
     phase: usize,
-    heads: &[[u32; 80]; 16],
+    heads: &[Row; 16],
     received: &[u16; 512],
     times: &[u32; 256],
 ) -> bool
@@ -106,7 +107,7 @@ pub fn close_breaks(
     g: Setting,
     e: Entry,
     phase: usize,
-    heads: &[[u32; 80]; 16],
+    heads: &[Row; 16],
     received: &[u16; 512],
     times: &[u32; 256],
     found: &mut [u8; 16],

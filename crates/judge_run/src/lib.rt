@@ -6,6 +6,7 @@ use judge_end::premise_4;
 use judge_entry::breaks;
 use judge_entry::keeps_premise_2;
 use protocol::Judged;
+use protocol::Row;
 use protocol::Setting;
 use protocol::Verdict;
 use sheet_entry::entry_verdict;
@@ -29,7 +30,7 @@ ghost use Rattle.judge_run.specs.Where.{TellsBroken, TellsWhere};
 const NEVER: i64 = 4611686018427387904;
 
 // The first broken premise after the last entry, by what was found at the entries.
-fn judged_of(g: Setting, heads: &[[u32; 80]; 16], steady: bool, found: &[u8; 16]) -> Judged
+fn judged_of(g: Setting, heads: &[Row; 16], steady: bool, found: &[u8; 16]) -> Judged
     ensures { λ j. ⌜ JudgedAt g (now (heads .entry)) steady (now (found .entry)) j ⌝ }
 {
     first_broken(
@@ -64,7 +65,7 @@ pub fn run_entries(
     g: Setting,
     count: usize,
     until: u8,
-    heads: &mut [[u32; 80]; 16],
+    heads: &mut [Row; 16],
     entries: &mut usize,
 ) -> Judged
     requires { ⌜ (2 + 3 * count ≤ length (now sheet)) × (length (now sheet) ≤ 12290) × (firstWordFits (getD (now sheet) 0 0) ≡ true) × (g ≡ settingAt (now sheet)) × (now heads ≡ headRows g []) ⌝ }
@@ -105,7 +106,7 @@ pub fn run_entries(
 }
 
 // Fresh rows of head 0 become those of the sixteen heads.
-pub fn number_heads(heads: &mut [[u32; 80]; 16])
+pub fn number_heads(heads: &mut [Row; 16])
     ensures { λ _. ⌜ FreshBut (now (heads .entry)) (now (heads .exit)) ⌝ }
 {
     let mut q: usize = 0;
@@ -116,7 +117,7 @@ pub fn number_heads(heads: &mut [[u32; 80]; 16])
 }
 
 // The run of a sheet's first k entries, or of all of them where it has fewer: causes 1 to 4, then entry by entry 6 to 9.
-pub fn run(sheet: &[u32], k: usize, heads: &mut [[u32; 80]; 16]) -> Judged
+pub fn run(sheet: &[u32], k: usize, heads: &mut [Row; 16]) -> Judged
     ensures { λ j. ⌜ Passes (settingAt (now (sheet .entry))) (runFirst (now (sheet .entry)) k) j (now (heads .exit)) ⌝ }
 {
     let v = sheet_verdict(sheet);

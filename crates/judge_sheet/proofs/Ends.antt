@@ -25,7 +25,7 @@ use Rattle.protocol.specs.Premises.{premises, firstBroken, judgeRun, judge}
 use Rattle.protocol.proofs.Fits.{sheet-fits}
 use Rattle.protocol.proofs.Valid.{valid-run, heads-fit, fixed}
 use Rattle.protocol.proofs.Ranges.{run-in-range, range-test}
-use Rattle.sheet_results.specs.Written.{InRange, Writes}
+use Rattle.sheet_results.specs.Written.{RecordInRange, Writes}
 use Rattle.judge_run.specs.Pass.{Passes}
 use Rattle.judge_sheet.specs.Replays.{filledBy, Replays}
 
@@ -71,7 +71,7 @@ module _ (j : Judged) (n : ℕ) (heads : List (List ℕ)) (out : List ℕ) where
 
 -- "in its ranges": every head's record of an accepted run is
 all-in-range : (ws : List ℕ) (k : ℕ) → headsFit (settingAt ws .n) (settingAt ws .f) ≡ true
-    → (s : History) → runOf ws k ≡ ran s → (q : ℕ) → q < settingAt ws .n → InRange (recordOf (settingAt ws) s q)
+    → (s : History) → runOf ws k ≡ ran s → (q : ℕ) → q < settingAt ws .n → RecordInRange (recordOf (settingAt ws) s q)
 all-in-range ws k fit s e q lt =
     let v = valid-run ws k s e in
     (range-test (run-in-range fit v q lt), fixed (settingAt ws) v q .size-is)

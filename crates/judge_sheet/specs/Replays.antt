@@ -11,7 +11,7 @@ use Rattle.protocol.specs.declared.Replayed.{Replayed}
 use Rattle.protocol.specs.declared.Cause.the-variants.{ShortBuffer}
 use Rattle.protocol.specs.Run.{History, recordOf, Run, stopped, ran}
 use Rattle.protocol.specs.Results.{Replay, fill, wordsPerHead}
-use Rattle.sheet_results.specs.Written.{InRange}
+use Rattle.sheet_results.specs.Written.{RecordInRange}
 use Rattle.judge_run.specs.Pass.{Passes}
 
 -- cause 5, then the run
@@ -20,5 +20,5 @@ filledBy g run out = cond (ltb (length out) (wordsPerHead * g .n)) (fill g out (
 
 abbrev pub Replays : Judged → ℕ → List (List ℕ) → List ℕ → Replayed → List ℕ → Type 0
 Replays j n heads before r after =
-    (g : Setting) (run : Run) → Passes g run j heads → n ≡ g .n → ((s : History) → run ≡ ran s → (q : ℕ) → q < n → InRange (recordOf g s q))
+    (g : Setting) (run : Run) → Passes g run j heads → n ≡ g .n → ((s : History) → run ≡ ran s → (q : ℕ) → q < n → RecordInRange (recordOf g s q))
     → (r ≡ filledBy g run before .answer) × (after ≡ filledBy g run before .buffer)

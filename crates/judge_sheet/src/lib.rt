@@ -7,6 +7,7 @@ use protocol::Cause;
 use protocol::Judged;
 use protocol::Replayed;
 use protocol::Report;
+use protocol::Row;
 use protocol::Verdict;
 use sheet_results::WORDS_PER_HEAD;
 use sheet_results::write_words;
@@ -21,7 +22,7 @@ ghost use Rattle.protocol.specs.Claim.{Agrees, AgreesInWords};
 ghost use Rattle.judge_sheet.specs.Replays.{Replays};
 
 // "Sheet order: 1 to 5, then entry by entry 6 to 9": cause 5, then what the pass answered; else the result words.
-fn replay_of(judged: Judged, n: u8, heads: &[[u32; 80]; 16], out: &mut [u32]) -> Replayed
+fn replay_of(judged: Judged, n: u8, heads: &[Row; 16], out: &mut [u32]) -> Replayed
     requires { ⌜ n ≤ 16 ⌝ }
     ensures { λ r. ⌜ Replays judged n (now (heads .entry)) (now (out .entry)) r (now (out .exit)) ⌝ }
 {

@@ -5,6 +5,7 @@ use print_text::put_decimal;
 use print_text::put_difference;
 use print_text::put_text;
 use protocol::Cause;
+use protocol::TIME_LIMIT;
 use sheet_results::result_word;
 ghost use mathlib.Core.Path.{_≡_};
 ghost use mathlib.Core.List.{[], _∷_, _++_};
@@ -12,13 +13,10 @@ ghost use Rattle.protocol.specs.Program.{decimal, line, headLines, premisesLine
 ghost use Rattle.print_lines.specs.Lines.{headLineOf, resultLines};
 ghost use Rattle.print_text.specs.Written.{written, endOf};
 
-// 2²⁸: "Times are microseconds in 28 bits"
-const TIMES: u32 = 268435456;
-
 // "One blank stands between fields"; each line ends with a newline
 const BLANK: u8 = 32;
 
-const NEWLINE: u8 = 10;
+pub const NEWLINE: u8 = 10;
 
 // A field, and the blank behind it.
 pub fn put_field(x: u64, out: &mut [u8], at: usize) -> usize
@@ -41,8 +39,8 @@ pub fn put_head_line(results: &[u32], q: u8, out: &mut [u8], at: usize) -> usize
     ensures { λ r. ⌜ (now (out .exit) ≡ written (now (out .entry)) at (headLineOf (now (results .entry)) q)) × (r ≡ endOf at (headLineOf (now (results .entry)) q)) ⌝ }
 {
     let w = result_word(results, q, 0);
-    let adjustment = result_word(results, q, 1) % TIMES;
-    let start = result_word(results, q, 2) % TIMES;
+    let adjustment = result_word(results, q, 1) % TIME_LIMIT;
+    let start = result_word(results, q, 2) % TIME_LIMIT;
     let p = put_field(q as u64, out, at);
     let p = put_field(((w >> 24) % 16) as u64, out, p);
     let p = put_field(((w >> 16) % 16) as u64, out, p);

@@ -22,16 +22,16 @@ adjustmentSent s p j = carriedReading (frameSent s 8 p j)
 
 module _ (g : Setting) where
   -- where an event's adjustment comes from: its head has no adjuster and computes one, or it passes one on
-  pub data Origin (s : History) (e : Event) (c : ℕ) (x : Reading) : Type 0 where
-    own : c ≡ e .entry .head → held g adjusts s (e .entry .head) ≡ NoNumber → Origin s e c x
-    reached : (p j : ℕ) → names g adjusts s p j ≡ SomeNumber c → adjustmentSent s p j ≡ SomeReading x → Origin s e c x
+  pub data AdjustmentOrigin (s : History) (e : Event) (c : ℕ) (x : Reading) : Type 0 where
+    own : c ≡ e .entry .head → held g adjusts s (e .entry .head) ≡ NoNumber → AdjustmentOrigin s e c x
+    reached : (p j : ℕ) → names g adjusts s p j ≡ SomeNumber c → adjustmentSent s p j ≡ SomeReading x → AdjustmentOrigin s e c x
 
   -- what an event does to its head's adjustment: nothing, or the head sends an adjust with it
   pub data Adjusting (s : History) (e : Event) : Type 0 where
     unchanged : e .after .adjustment ≡ recordOf g s (e .entry .head) .adjustment → e .after .adjust .sent ≡ sent g adjusts s (e .entry .head)
         → ((j : ℕ) → isDeliveredBy 8 j (e .frame) ≡ false) → Adjusting s e
     sends : (c : ℕ) (x : Reading) → e .after .adjustment ≡ x → e .after .adjust .choice ≡ SomeNumber c → e .after .adjust .sent ≡ sent g adjusts s (e .entry .head) + 1 → e .frame ≡ Adjust (sent g adjusts s (e .entry .head)) c x
-        → Origin s e c x → Adjusting s e
+        → AdjustmentOrigin s e c x → Adjusting s e
 
   pub adjusting-at : {s : History} {e : Event} → Taken g s e → Valid g s → Adjusting s e
   unfolding vote adjust
@@ -47,7 +47,7 @@ module _ (g : Setting) where
       at : (x : Sending) → sendingOf r a ≡ x → (P : Stepped → Type 0) → P (send x (prepared r a)) → P (accepted (e .after) (e .frame))
       at x u P h = of-effect g P t (subst (λ (y : Sending). P (send y (prepared r a))) (sym u) h)
 
-      origin : (c : ℕ) (x : Reading) → Why adjusts r a c → Source r a x → Origin s e c x
+      origin : (c : ℕ) (x : Reading) → Why adjusts r a c → Source r a x → AdjustmentOrigin s e c x
       origin c x (itself is none tu) z = own (is ∙ fixed g v (e .entry .head) .own-is) none
       origin c x (told nu na) (computed n7 m) = absurd (omega arith)
       origin c x (told nu na) (passed-on n8 ca) =
@@ -145,7 +145,7 @@ module _ (g : Setting) where
       names-it : names g adjusts (e ∷ s) q (sent g adjusts s q) ≡ SomeNumber c
       names-it = z .names-new (sent g adjusts s q) ∙ rw (unsent g adjusts v q, eqb-same (sent g adjusts s q)) (ap (λ (w : ℕ). SomeNumber w) (sym is))
 
-      go : Origin s e c x → Single (e ∷ s) c (adjustmentSent (e ∷ s) q (sent g adjusts s q))
+      go : AdjustmentOrigin s e c x → Single (e ∷ s) c (adjustmentSent (e ∷ s) q (sent g adjusts s q))
       go (own c-is none) =
           let zero-sent = none-sent v q none in
           record {

@@ -40,13 +40,13 @@ any-map p r i [] t = t
 any-map p r i (e ∷ h) t = or-cases (p e) _ t (λ u. or-first (r e) _ (i e u)) (λ u. or-second (r e) _ (any-map p r i h u))
 
 -- an event that passes the test, with what came before it
-pub record Found (p : Event → Bool) (h : History) : Type 0 where
+pub record FoundIn (p : Event → Bool) (h : History) : Type 0 where
   pub event : Event
   pub past : History
   pub there : Earlier (event ∷ past) h
   pub holds : p event ≡ true
 
-pub find : (p : Event → Bool) (h : History) → any p h ≡ true → Found p h
+pub find : (p : Event → Bool) (h : History) → any p h ≡ true → FoundIn p h
 find p [] e = absurd-bool e refl
 find p (d ∷ h) e =
     or-cases (p d) (any p h) e (λ t. record { event = d; past = h; there = now; holds = t })

@@ -85,14 +85,14 @@ words-at : (r : ℕ → HeadRecord) (q k i j : ℕ) (rest : List ℕ) → i < k 
 unfolding wordsFrom
 words-at r q zero i j rest h l = absurd (not-suc-le-zero h)
 words-at r q (suc k) zero j rest h l =
-    let place : j ≡ 3 * 0 + j = omega arith in
+    let index : j ≡ 3 * 0 + j = omega arith in
     let head : q ≡ q + 0 = omega arith in
-    subst (λ (m : ℕ). getD (wordsFrom r q (suc k) ++ rest) m 0 ≡ getD (headWords (q + 0) (r (q + 0))) j 0) place
+    subst (λ (m : ℕ). getD (wordsFrom r q (suc k) ++ rest) m 0 ≡ getD (headWords (q + 0) (r (q + 0))) j 0) index
     (subst (λ (p : ℕ). getD (wordsFrom r q (suc k) ++ rest) j 0 ≡ getD (headWords p (r p)) j 0) head (among-three _ _ _ (wordsFrom r (suc q) k ++ rest) j l))
 words-at r q (suc k) (suc i) j rest h l =
-    let place : suc (suc (suc (3 * i + j))) ≡ 3 * suc i + j = omega arith in
+    let index : suc (suc (suc (3 * i + j))) ≡ 3 * suc i + j = omega arith in
     let head : suc q + i ≡ q + suc i = omega arith in
-    subst (λ (m : ℕ). getD (wordsFrom r q (suc k) ++ rest) m 0 ≡ getD (headWords (q + suc i) (r (q + suc i))) j 0) place
+    subst (λ (m : ℕ). getD (wordsFrom r q (suc k) ++ rest) m 0 ≡ getD (headWords (q + suc i) (r (q + suc i))) j 0) index
     (subst (λ (p : ℕ). getD (wordsFrom r (suc q) k ++ rest) (3 * i + j) 0 ≡ getD (headWords p (r p)) j 0) head (words-at r (suc q) k i j rest (omega arith) l))
 
 result-at : (g : Setting) (h : History) (rest : List ℕ) (q j : ℕ) → q < g .n → j < 3 → resultOf (resultWords g h ++ rest) q j ≡ getD (headWords q (recordOf g h q)) j 0

@@ -145,7 +145,7 @@ asked e (suc (suc (suc (suc (suc (suc (suc (suc (suc zero))))))))) x h ze se fi 
 asked e (suc (suc (suc (suc (suc (suc (suc (suc (suc (suc a)))))))))) x h ze se fi = absurd (omega arith)
 
 -- cause 6 passed
-pub record Fits (g : Setting) (e : Entry) : Type 0 where
+pub record FittingEntry (g : Setting) (e : Entry) : Type 0 where
   pub action-below : e .action ≤ 9
   pub head-below : e .head < g .n
   pub sender-below : e .sender < g .n
@@ -153,7 +153,7 @@ pub record Fits (g : Setting) (e : Entry) : Type 0 where
   pub reading-below : e .reading .0 < 2 ^ 28
   pub zero-unused : zeroWhereUnused (e .action) (e .sender) (e .serial) ≡ true
 
-fits-entry : (g : Setting) (t a w : ℕ) → entryFits (g .n) t a w ≡ true → Fits g (entryOf t a w)
+fits-entry : (g : Setting) (t a w : ℕ) → entryFits (g .n) t a w ≡ true → FittingEntry g (entryOf t a w)
 unfolding entryFits entryOf
 fits-entry g t a w h =
     let f = entry-fits (g .n) t a w h in
@@ -184,7 +184,7 @@ passed r x sent a h =
     }
 
 -- an entry that is taken after s
-taken-entry : (g : Setting) (s : History) (fits : Bool) (e : Entry) → (fits ≡ true → Fits g e) → stepEntry g s fits e .verdict ≡ Accepted
+taken-entry : (g : Setting) (s : History) (fits : Bool) (e : Entry) → (fits ≡ true → FittingEntry g e) → stepEntry g s fits e .verdict ≡ Accepted
     → Taken g s (record { entry = e; after = stepEntry g s fits e .after; frame = stepEntry g s fits e .frame })
 unfolding stepEntry
 taken-entry g s fits e f h =
@@ -211,7 +211,7 @@ taken-entry g s fits e f h =
 same-history : {g : Setting} {s h : History} → ran s ≡ ran h → Valid g s → Valid g h
 same-history {g} e v = subst (Valid g) (let z = e in cc) v
 
-valid-extend : (g : Setting) (place : ℕ) (s h : History) (fits : Bool) (e : Entry) → (fits ≡ true → Fits g e) → Valid g s → (x : Verdict) → stepEntry g s fits e .verdict ≡ x
+valid-extend : (g : Setting) (place : ℕ) (s h : History) (fits : Bool) (e : Entry) → (fits ≡ true → FittingEntry g e) → Valid g s → (x : Verdict) → stepEntry g s fits e .verdict ≡ x
     → extend place s e (stepEntry g s fits e) x ≡ ran h → Valid g h
 valid-extend g place s h fits e f v Accepted t u = same-history u (more (taken-entry g s fits e f t) v)
 valid-extend g place s h fits e f v (Refused c) t u = absurd (let z : _≡_ {A = ℕ} 0 1 = cc in omega arith)

@@ -12,7 +12,7 @@ use Rattle.protocol.specs.Run.{Event, History, recordOf, ran, runSheet}
 use Rattle.protocol.specs.Results.{wordsPerHead, replay}
 use Rattle.protocol.specs.Premises.{lastStart, judge}
 
--- "Correct: the head's bit in the first word is set"
+-- one of the n heads, and correct
 pub record CorrectHead (g : Setting) (q : ℕ) : Type 0 where
   pub is-head : q < g .n
   pub is-correct : isCorrect g q ≡ true
@@ -49,7 +49,7 @@ endingInWords out q =
       correction = subℕ (timeOf (resultOf out q 1)) (timeOf (resultOf out q 2));
     }
 
--- "Looked at: any entry of the head, whatever the action, after the one at which its adjust phase closed"
+-- Looked at, a term of document 01: "any entry of the head, whatever the action, after the one at which its adjust phase closed"
 pub record LookedAt (g : Setting) (h : History) (q : ℕ) (e : Event) : Type 0 where
   pub later : History
   pub earlier : History
@@ -64,7 +64,8 @@ shown e x = pos (e .entry .reading .0) +ℤ x .correction
 abbrev pub apart : ℤ → ℤ → ℕ
 apart x y = natAbs (x -ℤ y)
 
--- "Its chosen start is its candidate's, last received at its last action 2 with that sender": the real microseconds since then
+-- Chosen start, a term of document 01: "its candidate's, last received at its last action 2 with that sender"; the real
+-- microseconds since then
 abbrev pub sinceStart : History → ℕ → Ending → Event → ℕ
 sinceStart h q x e = e .entry .time .0 - lastStart h (x .candidate) q
 

@@ -77,16 +77,18 @@ entryFits n t a w =
 abbrev pub mostWords : ℕ
 mostWords = 2 + 3 * 4096
 
--- the sheet's setting, the number of its entries, and the place of entry i: the index of its first word
+-- the sheet's setting, and the number of its entries
 abbrev pub settingAt : List ℕ → Setting
 settingAt ws = settingOf (getD ws 0 0) (getD ws 1 0)
 
 abbrev pub entryCount : List ℕ → ℕ
 entryCount ws = (length ws - 2) / 3
 
+-- Place, a term of document 01: "the index of the entry's first word"
 abbrev pub placeOf : ℕ → ℕ
 placeOf i = 2 + 3 * i
 
+-- entry i, and its test of cause 6
 abbrev pub entryAt : List ℕ → ℕ → Entry
 entryAt ws i = entryOf (getD ws (placeOf i) 0) (getD ws (placeOf i + 1) 0) (getD ws (placeOf i + 2) 0)
 

@@ -1,6 +1,9 @@
 // The types of the protocol: a head's record, what a head is asked and answers, a run sheet's entries, and the causes.
 // The definitions of specs/ speak about these types themselves, so a contract equates a function's result with a definition.
 
+// 2²⁸: "Times are microseconds in 28 bits", so each is below this.
+pub const TIME_LIMIT: u32 = 268435456;
+
 // Real time, in microseconds. A type of its own: real time never stands in for a reading.
 pub struct RealTime(pub u32);
 
@@ -49,6 +52,12 @@ pub struct HeadRecord {
     pub adjustment: Reading,
     pub senders: [Sender; 16],
 }
+
+// A head's record as a row of numbers, in the memory that a board lends: specs/Row.antt says which stands for what. No other
+// place knows how many they are.
+pub const ROW_NUMBERS: usize = 80;
+
+pub type Row = [u32; ROW_NUMBERS];
 
 // The ten actions, in the order of their numbers. A delivered vote or adjust has its sender, its serial, and what it carries.
 pub enum Action {

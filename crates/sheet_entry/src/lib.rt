@@ -5,6 +5,7 @@ use head_step::effect;
 use protocol::Cause;
 use protocol::Entry;
 use protocol::Input;
+use protocol::Row;
 use protocol::Sent;
 use protocol::Verdict;
 use sheet_state::frame_index;
@@ -20,7 +21,7 @@ ghost use Rattle.sheet_state.specs.Arrays.{headRows, answerAt, eventAt, Stands,
 ghost use Rattle.sheet_entry.specs.Open.{isOpen};
 
 // Whether the frame that an entry delivers, if any, was sent, and its action is not closed.
-fn is_open(e: Entry, heads: &[[u32; 80]; 16]) -> bool
+fn is_open(e: Entry, heads: &[Row; 16]) -> bool
     ensures { λ b. ⌜ ((ws : List ℕ) (i : ℕ) (s : History) → Stands ws i s (now (heads .entry)) → e ≡ entryAt ws i
         → b ≡ isOpen (settingAt ws) s e) ⌝ }
 {
@@ -35,7 +36,7 @@ fn is_open(e: Entry, heads: &[[u32; 80]; 16]) -> bool
 }
 
 // "entry by entry 6 to 9"
-pub fn entry_verdict(e: Entry, fits: bool, time: u32, heads: &[[u32; 80]; 16]) -> Verdict
+pub fn entry_verdict(e: Entry, fits: bool, time: u32, heads: &[Row; 16]) -> Verdict
     ensures { λ v. ⌜ ((ws : List ℕ) (i : ℕ) (s : History) → Stands ws i s (now (heads .entry)) → time ≡ lastTime s → e ≡ entryAt ws i → fits ≡ entryFitsAt ws i
         → v ≡ answerAt ws i s .verdict) ⌝ }
 {
@@ -105,7 +106,7 @@ fn keep_frame(h: u8, x: Sent, choices: &mut [u8; 512], carried: &mut [u32; 512])
 // What an accepted entry does.
 pub fn take_entry(
     e: Entry,
-    heads: &mut [[u32; 80]; 16],
+    heads: &mut [Row; 16],
     choices: &mut [u8; 512],
     carried: &mut [u32; 512],
 )

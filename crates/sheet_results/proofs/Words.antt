@@ -20,7 +20,7 @@ use Rattle.protocol.proofs.Ranges.{in-range}
 use Rattle.protocol.proofs.ResultWords.{length-words, outcome-below, number-below, start-below}
 use Rattle.head_result.specs.Result.{IsResult}
 use Rattle.sheet_results.specs.declared.HeadWords.{HeadWords}
-use Rattle.sheet_results.specs.Written.{InRange, AreWords, Writes}
+use Rattle.sheet_results.specs.Written.{RecordInRange, AreWords, Writes}
 
 -- ONE HEAD
 
@@ -38,7 +38,7 @@ adopted-below r x b z h = cond-elim (λ (y : ℕ). y < b) (eqb (outcome r) 2) (�
 
 -- the words of a result's numbers
 module _ (q : ℕ) (row x : List ℕ) (w : ℕ) (low : q < 16) (result : IsResult row x) (is : w ≡ field6 (getD x 0 0 % 16) (q % 16) (getD x 1 0 % 16) (getD x 2 0 % 16))
-    (r : HeadRecord) (row-is : row ≡ rowOf r) (range : InRange r) where
+    (r : HeadRecord) (row-is : row ≡ rowOf r) (range : RecordInRange r) where
   facts : Ranges.InRange r
   facts = in-range (range .0)
 

@@ -11,14 +11,14 @@ use Rattle.protocol.specs.Row.{rowOf}
 use Rattle.protocol.specs.Results.{outcomeWord, adjustmentWord, startWord, wordsPerHead, wordsFrom}
 use Rattle.sheet_results.specs.declared.HeadWords.{HeadWords}
 
-abbrev pub InRange : HeadRecord → Type 0
-InRange r = (recordInRange r ≡ true) × (length (r .senders) ≡ 16)
+abbrev pub RecordInRange : HeadRecord → Type 0
+RecordInRange r = (recordInRange r ≡ true) × (length (r .senders) ≡ 16)
 
 -- head q's three words, of the record in its ranges that the row is of
 abbrev pub AreWords : ℕ → List ℕ → HeadWords → Type 0
-AreWords q row w = (r : HeadRecord) → row ≡ rowOf r → InRange r → (w .outcome ≡ outcomeWord q r) × (w .adjustment ≡ adjustmentWord r) × (w .start ≡ startWord r)
+AreWords q row w = (r : HeadRecord) → row ≡ rowOf r → RecordInRange r → (w .outcome ≡ outcomeWord q r) × (w .adjustment ≡ adjustmentWord r) × (w .start ≡ startWord r)
 
 -- the words of n heads from word 0 on, later words kept
 abbrev pub Writes : ℕ → List (List ℕ) → List ℕ → List ℕ → Type 0
 Writes n heads before after =
-    (r : ℕ → HeadRecord) → heads ≡ table (λ q. rowOf (r q)) 0 16 → ((q : ℕ) → q < n → InRange (r q)) → after ≡ wordsFrom r 0 n ++ drop (wordsPerHead * n) before
+    (r : ℕ → HeadRecord) → heads ≡ table (λ q. rowOf (r q)) 0 16 → ((q : ℕ) → q < n → RecordInRange (r q)) → after ≡ wordsFrom r 0 n ++ drop (wordsPerHead * n) before

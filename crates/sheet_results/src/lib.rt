@@ -1,5 +1,7 @@
 // The heads' result words, written from their rows into a lent buffer and read back: document 01, "Result words".
 use head_result::result_numbers;
+use protocol::Row;
+use protocol::TIME_LIMIT;
 ghost use mathlib.Core.Path.{_≡_};
 ghost use Prim.Native.Nat.{_+_, _*_, _%_, _^_, _≤_, _<_};
 ghost use lib.ListN.{length};
@@ -9,9 +11,6 @@ ghost use Rattle.sheet_results.specs.Written.{AreWords, Writes};
 
 // "Three per head"
 pub const WORDS_PER_HEAD: usize = 3;
-
-// 2²⁸: "Times are microseconds in 28 bits"
-const TIMES: u32 = 268435456;
 
 // 6 × 2²⁸, 7 × 2²⁸ and 8 × 2²⁸: a word of each kind less what stands below the kind
 const KIND_6: u32 = 1610612736;
@@ -35,20 +34,20 @@ fn word_6(o: u32, q: u32, c: u32, a: u32) -> u32
 }
 
 // "kind 7 with the adjustment; kind 8 with the candidate's start reading"
-fn head_words(q: u8, row: &[u32; 80]) -> HeadWords
+fn head_words(q: u8, row: &Row) -> HeadWords
     requires { ⌜ q < 16 ⌝ }
     ensures { λ w. ⌜ AreWords q (now (row .entry)) w ⌝ }
 {
     let x = result_numbers(row);
     HeadWords {
         outcome: word_6(x[0], q as u32, x[1], x[2]),
-        adjustment: KIND_7 + x[3] % TIMES,
-        start: KIND_8 + x[4] % TIMES,
+        adjustment: KIND_7 + x[3] % TIME_LIMIT,
+        start: KIND_8 + x[4] % TIME_LIMIT,
     }
 }
 
 // "Three per head, in head order from word 0, later words kept"
-pub fn write_words(out: &mut [u32], n: u8, heads: &[[u32; 80]; 16])
+pub fn write_words(out: &mut [u32], n: u8, heads: &[Row; 16])
     requires { ⌜ (n ≤ 16) × (wordsPerHead * n ≤ length (now out)) ⌝ }
     ensures { λ _. ⌜ Writes n (now (heads .entry)) (now (out .entry)) (now (out .exit)) ⌝ }
 {

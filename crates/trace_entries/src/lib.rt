@@ -8,6 +8,7 @@ use protocol::Entry;
 use protocol::OptNumber;
 use protocol::Reading;
 use protocol::RealTime;
+use protocol::Row;
 use protocol::Verdict;
 use sheet_entry::entry_verdict;
 use sheet_entry::take_entry;
@@ -40,7 +41,7 @@ pub enum Traced {
     Ended,
 }
 
-fn line_of(e: Entry, row: &[u32; 80]) -> Line
+fn line_of(e: Entry, row: &Row) -> Line
     ensures { λ l. ⌜ IsLine e (now (row .entry)) l ⌝ }
 {
     let time = e.time;
@@ -60,7 +61,7 @@ fn line_of(e: Entry, row: &[u32; 80]) -> Line
 }
 
 // The rows before the first entry of an accepted sheet; no frame is sent yet, and the real time is 0.
-pub fn first_heads(sheet: &[u32]) -> [[u32; 80]; 16]
+pub fn first_heads(sheet: &[u32]) -> [Row; 16]
     requires { ⌜ sheetVerdict (now sheet) ≡ Accepted ⌝ }
     ensures { λ heads. ⌜ Follows (now (sheet .entry)) 0 heads (replicate 512 0) (replicate 512 0) 0 ⌝ }
 {
@@ -76,7 +77,7 @@ pub fn trace_next(
     sheet: &[u32],
     i: usize,
     time: u32,
-    heads: &mut [[u32; 80]; 16],
+    heads: &mut [Row; 16],
     choices: &mut [u8; 512],
     carried: &mut [u32; 512],
 ) -> Traced

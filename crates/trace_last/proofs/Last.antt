@@ -1,5 +1,5 @@
 -- The judge's answer, and where the first broken premise was broken, are all of the last line.
--- Main results: `kept-line`, `broken-line`, `refused-line`; `cause-line`, `sheet-line`, `shown`.
+-- Main results: `kept-line`, `broken-line`, `refused-line`; `cause-line`, `sheet-line`, `last-line-written`.
 use mathlib.Core.Path.{_≡_, refl, sym, _∙_, ap}
 use mathlib.Core.Bool.{Bool, true, false}
 use mathlib.Core.List.{List, [], _∷_}
@@ -101,7 +101,7 @@ bytes-short bytes = go (bytesVerdict bytes)
     go Accepted = last-short (bigEndian bytes)
     go (Refused c) = refused-short c 0
 
-pub shown : (bytes out after text : List ℕ) (r : ℕ) → text ≡ lastLineOfBytes bytes → Wrote out after 0 r text
+pub last-line-written : (bytes out after text : List ℕ) (r : ℕ) → text ≡ lastLineOfBytes bytes → Wrote out after 0 r text
     → (after ≡ written out 0 (lastLineOfBytes bytes)) × (r ≡ length (lastLineOfBytes bytes)) × (r ≤ 64)
-shown bytes out after text r e w =
+last-line-written bytes out after text r e w =
     let bound = from-first out after text r 64 (rw e (bytes-short bytes)) (omega arith) w in (rw (← e) (w .0), rw (← e) (bound .0), bound .1)

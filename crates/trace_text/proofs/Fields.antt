@@ -1,5 +1,5 @@
 -- A line by its fields, and how long it can be.
--- Main results: `field-next`, `fields-line`, `shown`.
+-- Main results: `field-next`, `fields-line`, `entry-line-written`.
 use mathlib.Core.Path.{_≡_, refl, sym, _∙_, ap}
 use mathlib.Core.List.{List, [], _∷_, _++_, append-assoc}
 use Prim.Native.Nat.{ℕ, _+_, _^_, _≤_, _<_}
@@ -54,6 +54,6 @@ entry-short i l =
     (decimal i ∷ decimal (l .time .0) ∷ decimal (l .head) ∷ decimal (l .action) ∷ choiceText (l .candidate) ∷ choiceText (l .adjuster)
     ∷ numberText (l .adjuster) (l .adjustment .0) ∷ decimal (l .outcome) ∷ [])) (omega arith)
 
-pub shown : (i : ℕ) (l : Line) (out after : List ℕ) (r : ℕ) → Wrote out after 0 r (entryText i l)
+pub entry-line-written : (i : ℕ) (l : Line) (out after : List ℕ) (r : ℕ) → Wrote out after 0 r (entryText i l)
     → (after ≡ written out 0 (entryText i l)) × (r ≡ length (entryText i l)) × (r ≤ 168)
-shown i l out after r w = let bound = from-first out after (entryText i l) r 168 (entry-short i l) (omega arith) w in (w .0, bound .0, bound .1)
+entry-line-written i l out after r w = let bound = from-first out after (entryText i l) r 168 (entry-short i l) (omega arith) w in (w .0, bound .0, bound .1)

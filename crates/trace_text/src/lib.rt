@@ -1,5 +1,6 @@
 // The line that trace prints after an entry: index, real time, head, action, candidate, adjuster, adjustment and outcome, with `-`
 // where there is none.
+use print_lines::NEWLINE;
 use print_lines::put_field;
 use print_text::put;
 use print_text::put_decimal;
@@ -12,8 +13,6 @@ ghost use Prim.Native.Nat.{_≤_};
 ghost use lib.ListN.{length};
 ghost use Rattle.print_text.specs.Written.{written, endOf};
 ghost use Rattle.trace_text.specs.Text.{choiceText, numberText, entryFields, entryText};
-
-const NEWLINE: u8 = 10;
 
 // A candidate or an adjuster, and the blank behind it.
 fn put_choice(k: OptNumber, out: &mut [u8], at: usize) -> usize

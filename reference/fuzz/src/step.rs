@@ -1,7 +1,7 @@
 //! One head: three bytes for n, f and its number, then twelve for each action, for a
 //! change of the record's memory, or for a counter.
 
-use reference::board::{edges, same_counter, Asked, Both};
+use reference::board::{edges, same_counter, Both, InputNumbers};
 
 /// A byte as a number: mostly below the limit, else any byte, or beyond a byte.
 fn number(byte: u8, limit: u32) -> u32 {
@@ -26,7 +26,7 @@ fn reading(chunk: &[u8], last: u32) -> u32 {
     }
 }
 
-fn asked(chunk: &[u8], n: u32, last: u32) -> Asked {
+fn input_numbers(chunk: &[u8], n: u32, last: u32) -> InputNumbers {
     let carried = word(&chunk[8..]);
     let carried = if chunk[5] & 8 == 0 {
         carried >> 4
@@ -91,7 +91,7 @@ fn run(data: &[u8]) -> Result<(), String> {
             both = whole.take().unwrap_or(both);
         }
         let last = both.head[0];
-        crate::count(both.act(&asked(chunk, n, last))?);
+        crate::count(both.act(&input_numbers(chunk, n, last))?);
     }
     Ok(())
 }

@@ -6,7 +6,7 @@
 use std::collections::BTreeMap;
 use std::process::ExitCode;
 
-use reference::board::{edges, same_counter, Asked, Both};
+use reference::board::{edges, same_counter, Both, InputNumbers};
 use reference::random::Random;
 use reference::record::Record;
 
@@ -35,13 +35,13 @@ fn mostly_below(random: &mut Random, limit: u64) -> u32 {
     }
 }
 
-/// The next action: mostly one that a head may be asked.
-fn draw(random: &mut Random, record: &Record) -> Asked {
+/// The next action: mostly one that a head may take.
+fn draw(random: &mut Random, record: &Record) -> InputNumbers {
     let n = u64::from(record.n.clamp(2, 16));
     let action = mostly_below(random, 10);
     let step = random.pick(&[0, 1, 7, 400, 100_000]);
     let passed = random.below(step + 1) as u32;
-    let mut asked = [
+    let mut numbers = [
         action,
         record.last_reading.0.wrapping_add(passed),
         0,
@@ -51,27 +51,27 @@ fn draw(random: &mut Random, record: &Record) -> Asked {
         0,
     ];
     if random.chance(1, 60) {
-        asked[1] = random.pick(&[0, 1, (1 << 28) - 1, 1 << 28, u32::MAX]);
+        numbers[1] = random.pick(&[0, 1, (1 << 28) - 1, 1 << 28, u32::MAX]);
     }
     if matches!(action, 2 | 5 | 8) || random.chance(1, 80) {
-        asked[2] = mostly_below(random, n);
+        numbers[2] = mostly_below(random, n);
     }
     if matches!(action, 5 | 8) || random.chance(1, 80) {
-        asked[3] = mostly_below(random, 16);
-        asked[4] = mostly_below(random, n);
-        asked[5] = mostly_below(random, 1 << 28);
+        numbers[3] = mostly_below(random, 16);
+        numbers[4] = mostly_below(random, n);
+        numbers[5] = mostly_below(random, 1 << 28);
     }
     if (action == 5 && random.chance(1, 5)) || random.chance(1, 200) {
-        asked[6] = if random.chance(1, 50) {
+        numbers[6] = if random.chance(1, 50) {
             random.draw() as u32
         } else {
             1
         };
         if random.chance(9, 10) {
-            asked[5] = 0;
+            numbers[5] = 0;
         }
     }
-    asked
+    numbers
 }
 
 /// A copy of the head with one to three numbers of its memory changed, and the
@@ -102,8 +102,8 @@ fn act_damaged(
 ) -> Result<u32, String> {
     let (mut other, index) = damage(random, both, record);
     let changed = other.head != both.head;
-    let asked = draw(random, other.record.as_ref().unwrap_or(record));
-    let cause = other.act(&asked)?;
+    let numbers = draw(random, other.record.as_ref().unwrap_or(record));
+    let cause = other.act(&numbers)?;
     if changed {
         let taken = cause != 10;
         tally.taken += u64::from(taken);

@@ -8,7 +8,7 @@ use std::collections::BTreeMap;
 use std::io::Error;
 use std::process::ExitCode;
 
-use reference::ask::ask;
+use reference::ask::{arguments, ask};
 use reference::cover::{Cover, ALLOWED_COUNTS, BRANCHES};
 use reference::generate::{generate, Generated};
 
@@ -134,12 +134,7 @@ fn batch(
 }
 
 fn main() -> Result<ExitCode, Error> {
-    let arguments: Vec<String> = std::env::args().collect();
-    let numbers = (
-        arguments.get(2).and_then(|a| a.parse::<u64>().ok()),
-        arguments.get(3).and_then(|a| a.parse::<u64>().ok()),
-    );
-    let (Some(program), (Some(seed), Some(count))) = (arguments.get(1), numbers) else {
+    let Some((program, seed, count)) = arguments() else {
         eprintln!("usage: differential PROGRAM SEED COUNT");
         return Ok(ExitCode::from(2));
     };
@@ -147,7 +142,7 @@ fn main() -> Result<ExitCode, Error> {
     while tally.sheets < count {
         let first = tally.sheets;
         let end = count.min(first + BATCH);
-        if let Err(what) = batch(program, seed, first, end, &mut tally)? {
+        if let Err(what) = batch(&program, seed, first, end, &mut tally)? {
             println!("{what}");
             return Ok(ExitCode::FAILURE);
         }

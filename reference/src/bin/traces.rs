@@ -6,7 +6,7 @@
 use std::io::Error;
 use std::process::ExitCode;
 
-use reference::ask::ask;
+use reference::ask::{arguments, ask};
 use reference::generate::generate;
 use reference::trace::last_line;
 
@@ -54,18 +54,13 @@ fn print(seen: &[(String, u64)]) -> Vec<&str> {
 }
 
 fn main() -> Result<ExitCode, Error> {
-    let arguments: Vec<String> = std::env::args().collect();
-    let numbers = (
-        arguments.get(2).and_then(|a| a.parse::<u64>().ok()),
-        arguments.get(3).and_then(|a| a.parse::<u64>().ok()),
-    );
-    let (Some(program), (Some(seed), Some(count))) = (arguments.get(1), numbers) else {
+    let Some((program, seed, count)) = arguments() else {
         eprintln!("usage: traces PROGRAM SEED COUNT");
         return Ok(ExitCode::from(2));
     };
     let mut seen: Vec<_> = kinds().into_iter().map(|kind| (kind, 0)).collect();
     for index in 0..count {
-        match compare(program, seed, index)? {
+        match compare(&program, seed, index)? {
             Err(what) => {
                 println!("{what}");
                 return Ok(ExitCode::FAILURE);

@@ -51,7 +51,7 @@ use Rattle.protocol.proofs.Input as I
 use Rattle.protocol.proofs.Input.Laws as I′
 use Rattle.board_step.proofs.Answer as O
 use Rattle.board_step.proofs.Answer.Laws as O′
-use Rattle.board_step.proofs.Stored.{After, Answers, after-told, answer-told, to-after, to-answer, goes-after, goes-answer}
+use Rattle.board_step.proofs.Stored.{AfterContract, AnswerContract, after-told, answer-told, to-after, to-answer, goes-after, goes-answer}
 use Rattle.head_by_value.proofs.step as callee
 use Rattle.head_by_value.proofs.step.Symbol as callee-def
 use Rattle.head_by_value.proofs.step.Symbol.{name as #head-by-value·step}
@@ -109,7 +109,7 @@ module _ {M : Type 1} (𝓤 : URA M) (H : Heap 𝓤) (A : Atoms 𝓤) (W : Given
   goes-do : ent 𝓤 (sep 𝓤 (sem 𝓤 H A (T.the-row .own h (hv ∷ []))) (sem 𝓤 H A (I.the-row .own i (iv ∷ [])))) (Does 𝓤 H A at-mem run .pre to-do)
   goes-do = qed W (‵ (T.the-row .own h (hv ∷ [])) ∷ ‵ (I.the-row .own i (iv ∷ [])) ∷ []) ∵ nothing ! $ move ! (2 ∷ 0 ∷ []) $ join ! $ move ! (1 ∷ 0 ∷ []) $ join ! $ nothing ! $ join ! $ frame ! $ done !
 
-  module _ (C : Calls 𝓤 H) (Λ : Loops 𝓤 H) (fm : FmC 𝓤 H (W .laws) C) (known-do : Triple 𝓤 (C #head-by-value·step) (Does 𝓤 H A at-mem run)) (known-after : Triple 𝓤 (C #board-step·after-of) (After 𝓤 H A at-mem run)) (known-answer : Triple 𝓤 (C #board-step·answer-of) (Answers 𝓤 H A at-mem run)) where
+  module _ (C : Calls 𝓤 H) (Λ : Loops 𝓤 H) (fm : FmC 𝓤 H (W .laws) C) (known-do : Triple 𝓤 (C #head-by-value·step) (Does 𝓤 H A at-mem run)) (known-after : Triple 𝓤 (C #board-step·after-of) (AfterContract 𝓤 H A at-mem run)) (known-answer : Triple 𝓤 (C #board-step·answer-of) (AnswerContract 𝓤 H A at-mem run)) where
     walk : ent 𝓤 (onEntry 𝓤 H A self.signature (κ, tt) (q, tt) x at) (WpFn 𝓤 H C Λ code.function (vptr b o ∷ iv ∷ []) Post)
     walk =
         qed W ((‵ (flft κ q) ⊛ ‵ ftrue) ∷ ‵ (owns (MutRef (named 0) κ T.the-row ∷ I.the-row ∷ []) x at) ∷ []) ∵ split ! $ move ! (2 ∷ []) $ fsplit ! $ move ! (1 ∷ []) $ fsplit ! $
@@ -128,8 +128,8 @@ module _ {M : Type 1} (𝓤 : URA M) (H : Heap 𝓤) (A : Atoms 𝓤) (W : Given
         split ! $ move ! (1 ∷ []) $ use1 W (raw (fact 𝓤 (s ≡ step h i))) (done-told 𝓤 H A at-mem run h i s) $ heard ! (s ≡ step h i) (λ e₁. split ! $ drop ! $
         peeks ! S.the-row (Is S.the-row) (shows 𝓤 H A S.the-row) s (sv ∷ []) (λ is.
         land ! (from ! (stop !)) (init ! 7 refl (LL.lawful S.the-type S′.the-laws 𝓤 H A W .typed s _ is .0)) $
-        use1 W (raw (After 𝓤 H A at-mem run .pre (to-after 𝓤 H A at-mem run s sv))) (goes-after 𝓤 H A at-mem run W s sv) $
-        calls-at ! fm (After 𝓤 H A at-mem run) known-after (to-after 𝓤 H A at-mem run s sv) (and-then ! (load ! (from ! (stop !)) (look ! 7 refl)) (no-more !)) (λ gv.
+        use1 W (raw (AfterContract 𝓤 H A at-mem run .pre (to-after 𝓤 H A at-mem run s sv))) (goes-after 𝓤 H A at-mem run W s sv) $
+        calls-at ! fm (AfterContract 𝓤 H A at-mem run) known-after (to-after 𝓤 H A at-mem run s sv) (and-then ! (load ! (from ! (stop !)) (look ! 7 refl)) (no-more !)) (λ gv.
         use1 W (later (some (λ (g : HeadRecord). (‵ ftrue ⊛ ‵ (T.the-row .own g (gv ∷ []))) ⊛ raw (ensured 𝓤 H A after-of.ended (after-of.clauses 𝓤 H A at-mem run) tt (s, tt) tt g)))) (id⊢ 𝓤 _) $ await ! tt $ pick ! (λ g.
         split ! $ move ! (1 ∷ []) $ use1 W (raw (fact 𝓤 (g ≡ s .after))) (after-told 𝓤 H A at-mem run s g) $ heard ! (g ≡ s .after) (λ e₂. split ! $ drop ! $
         peeks ! T.the-row (Is T.the-row) (shows 𝓤 H A T.the-row) g (gv ∷ []) (λ ig.
@@ -139,8 +139,8 @@ module _ {M : Type 1} (𝓤 : URA M) (H : Heap 𝓤) (A : Atoms 𝓤) (W : Given
         move ! (1 ∷ 0 ∷ []) $ closes ! tt T.the-row g (gv ∷ []) b o $
         -- [obs; the borrow; the token; _4 at 3; _3 at 5; _2 at 7; _1 at 9; _0 at 11; ..]
         owned ! S.the-row (Is S.the-row) (LL.makes S.the-type S′.the-plain 𝓤 H A) s _ is $
-        use1 W (raw (Answers 𝓤 H A at-mem run .pre (to-answer 𝓤 H A at-mem run s sv))) (goes-answer 𝓤 H A at-mem run W s sv) $
-        calls-at ! fm (Answers 𝓤 H A at-mem run) known-answer (to-answer 𝓤 H A at-mem run s sv) (and-then ! (load ! (from ! (stop !)) (look ! 6 refl)) (no-more !)) (λ av.
+        use1 W (raw (AnswerContract 𝓤 H A at-mem run .pre (to-answer 𝓤 H A at-mem run s sv))) (goes-answer 𝓤 H A at-mem run W s sv) $
+        calls-at ! fm (AnswerContract 𝓤 H A at-mem run) known-answer (to-answer 𝓤 H A at-mem run s sv) (and-then ! (load ! (from ! (stop !)) (look ! 6 refl)) (no-more !)) (λ av.
         use1 W (later (some (λ (a : Answer). (‵ ftrue ⊛ ‵ (O.the-row .own a (av ∷ []))) ⊛ raw (ensured 𝓤 H A answer-of.ended (answer-of.clauses 𝓤 H A at-mem run) tt (s, tt) tt a)))) (id⊢ 𝓤 _) $ await ! tt $ pick ! (λ a.
         split ! $ move ! (1 ∷ []) $ use1 W (raw (fact 𝓤 (a ≡ answerOf s))) (answer-told 𝓤 H A at-mem run s a) $ heard ! (a ≡ answerOf s) (λ e₃. split ! $ drop ! $
         peeks ! O.the-row (Is O.the-row) (shows 𝓤 H A O.the-row) a (av ∷ []) (λ ia.
@@ -150,7 +150,7 @@ module _ {M : Type 1} (𝓤 : URA M) (H : Heap 𝓤) (A : Atoms 𝓤) (W : Given
         keep ! (0 ∷ 1 ∷ 2 ∷ 3 ∷ []) $ by ! (exits g a av (e₂ ∙ ap (λ (s : Stepped). s .after) e₁) (e₃ ∙ ap answerOf e₁)))))))))))))))))))))
 
 module _ {M : Type 1} (𝓤 : URA M) (H : Heap 𝓤) (A : Atoms 𝓤) (W : Given 𝓤 H A) (at-mem : Memory → SProp 𝓤) (run : Routine → Fun 𝓤) where
-  walks : (C : Calls 𝓤 H) (Λ : Loops 𝓤 H) → FmC 𝓤 H (W .laws) C → Triple 𝓤 (C #head-by-value·step) (Does 𝓤 H A at-mem run) → Triple 𝓤 (C #board-step·after-of) (After 𝓤 H A at-mem run) → Triple 𝓤 (C #board-step·answer-of) (Answers 𝓤 H A at-mem run)
+  walks : (C : Calls 𝓤 H) (Λ : Loops 𝓤 H) → FmC 𝓤 H (W .laws) C → Triple 𝓤 (C #head-by-value·step) (Does 𝓤 H A at-mem run) → Triple 𝓤 (C #board-step·after-of) (AfterContract 𝓤 H A at-mem run) → Triple 𝓤 (C #board-step·answer-of) (AnswerContract 𝓤 H A at-mem run)
       → Walks 𝓤 H A self.ended stayed (WpFn 𝓤 H C Λ code.function) (self.clauses 𝓤 H A at-mem run)
   walks C Λ fm known-do known-after known-answer = walked 𝓤 H A self.ended stayed (self.clauses 𝓤 H A at-mem run) (WpFn 𝓤 H C Λ code.function) (λ κs. (ptr-vals, (LL.vals I.the-type I′.the-laws, tt))) (λ κs. (mut-tells (named 0) (κs .0) T.the-row, (LL.tells I.the-type I′.the-laws, tt)))
       (λ κs qs bounds a g are. via 𝓤 _ (fst∗ 𝓤 _ (emp 𝓤)) (walk 𝓤 H A W at-mem run (κs .0) (qs .0) (a .0 .ptr .0) (a .0 .ptr .1) (a .0 .name) (a .0 .now) (a .1 .0) (are .1 .0) C Λ fm known-do known-after known-answer))
@@ -159,7 +159,7 @@ module _ {M : Type 1} (𝓤 : URA M) (H : Heap 𝓤) (A : Atoms 𝓤) (W : Given
   goes = (goes-ref 𝓤 H A W 1 0 tt (plain (λ _. T.the-row)), (goes-none 𝓤 H A W 1 (λ _. I.the-row) yes (λ κs x f. refl), tt))
 
 meets : {M : Type 1} (𝓤 : URA M) (H : Heap 𝓤) (A : Atoms 𝓤) (W : Given 𝓤 H A) (at-mem : Memory → SProp 𝓤) (run : Routine → Fun 𝓤) (𝓣 : Tables 𝓤 H)
-    → Triple 𝓤 (𝓣 .C #head-by-value·step) (Does 𝓤 H A at-mem run) → Triple 𝓤 (𝓣 .C #board-step·after-of) (After 𝓤 H A at-mem run) → Triple 𝓤 (𝓣 .C #board-step·answer-of) (Answers 𝓤 H A at-mem run)
+    → Triple 𝓤 (𝓣 .C #head-by-value·step) (Does 𝓤 H A at-mem run) → Triple 𝓤 (𝓣 .C #board-step·after-of) (AfterContract 𝓤 H A at-mem run) → Triple 𝓤 (𝓣 .C #board-step·answer-of) (AnswerContract 𝓤 H A at-mem run)
     → Meets 𝓤 H A self.signature (WpFn 𝓤 H (𝓣 .C) (𝓣 .Λ) code.function) (self.spec 𝓤 H A at-mem run)
 meets 𝓤 H A W at-mem run 𝓣 kd ka kn = walk-meets 𝓤 H A self.ended stayed W (goes 𝓤 H A W at-mem run) (self.clauses 𝓤 H A at-mem run) (WpFn 𝓤 H (𝓣 .C) (𝓣 .Λ) code.function) (WpFn-mono 𝓤 H (W .laws) 𝓣 code.function)
     (walks 𝓤 H A W at-mem run (𝓣 .C) (𝓣 .Λ) (fmOf 𝓤 H (W .laws) 𝓣) kd ka kn)
@@ -171,5 +171,5 @@ board-step-spec 𝓤 H 𝓜 𝓖 𝓡 =
     (tables 𝓤 H 𝓜 𝓡 code.env .C) (tables 𝓤 H 𝓜 𝓡 code.env .Λ) #board-step·board-step code.function (code.unfolded 𝓤 H 𝓜 𝓡)
     (meets 𝓤 H (𝓖 .A) (givenOf 𝓤 H 𝓜 𝓖) (𝓜 .mem) (𝓡 .run) (tablesOf 𝓤 H 𝓜 (tables 𝓤 H 𝓜 𝓡 code.env))
     (cited 𝓤 H (Does 𝓤 H (𝓖 .A) (𝓜 .mem) (𝓡 .run)) 𝓜 𝓡 code.env #head-by-value·step callee-def.routine code.calls-head-by-value·step (callee-thm.met 𝓤 H 𝓜 𝓖 𝓡))
-    (cited 𝓤 H (After 𝓤 H (𝓖 .A) (𝓜 .mem) (𝓡 .run)) 𝓜 𝓡 code.env #board-step·after-of after-of-def.routine code.calls-board-step·after-of (after-of-thm.met 𝓤 H 𝓜 𝓖 𝓡))
-    (cited 𝓤 H (Answers 𝓤 H (𝓖 .A) (𝓜 .mem) (𝓡 .run)) 𝓜 𝓡 code.env #board-step·answer-of answer-of-def.routine code.calls-board-step·answer-of (answer-of-thm.met 𝓤 H 𝓜 𝓖 𝓡)))
+    (cited 𝓤 H (AfterContract 𝓤 H (𝓖 .A) (𝓜 .mem) (𝓡 .run)) 𝓜 𝓡 code.env #board-step·after-of after-of-def.routine code.calls-board-step·after-of (after-of-thm.met 𝓤 H 𝓜 𝓖 𝓡))
+    (cited 𝓤 H (AnswerContract 𝓤 H (𝓖 .A) (𝓜 .mem) (𝓡 .run)) 𝓜 𝓡 code.env #board-step·answer-of answer-of-def.routine code.calls-board-step·answer-of (answer-of-thm.met 𝓤 H 𝓜 𝓖 𝓡)))

@@ -2,14 +2,14 @@ use mathlib.Core.Path.{_≡_, refl}
 use Prim.Native.Nat.{_≤_, _-_}
 use lib.ListN.{length}
 use denote.Ref.{now}
-use Rattle.head_record.proofs.Filled.{written, next-written, all-written}
+use Rattle.head_record.proofs.Filled.{writtenBelow, next-written, all-written}
 use native.Mathlib.Omega.{arith}
 use borrow.Author.Needs.{needs}
 use Rattle.head_record.proofs.put_senders.Statement.{statement}
 use Rattle.head_record.proofs.put_senders.Tie as tie
 
 abbrev Inv-loop : tie.InvT-loop
-Inv-loop row₀ senders i₀ row i = (i ≤ 16) × (row ≡ written senders row₀ i)
+Inv-loop row₀ senders i₀ row i = (i ≤ 16) × (row ≡ writtenBelow senders row₀ i)
 
 abbrev μ-loop : tie.MeasureT-loop
 μ-loop row₀ senders i₀ row i = 16 - i

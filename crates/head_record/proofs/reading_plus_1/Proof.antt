@@ -12,6 +12,9 @@ enum-known-k c = search needs
 add-result : tie.Need-add-result
 add-result c = search needs
 
+add-result-2 : tie.Need-add-result-2
+add-result-2 c = search needs
+
 returns : tie.Need-returns
 returns c = simp (c .enum-told .given .1)
 
@@ -23,4 +26,4 @@ returns-3 c = simp (le-ltb _ _ (c .if1 .left), c .before .before .before .k .giv
 
 pub reading-plus-1-spec : {M : Type 1} → statement M
 reading-plus-1-spec =
-    tie.close (tie.spec enum-told enum-known-k add-result returns returns-2 returns-3)
+    tie.close (tie.spec enum-told enum-known-k add-result add-result-2 returns returns-2 returns-3)

@@ -16,6 +16,9 @@ Inv-loop g times v first₀ last₀ q₀ first last q =
 abbrev μ-loop : tie.MeasureT-loop
 μ-loop g times v first₀ last₀ q₀ first last q = g .n - q
 
+add-first : tie.Need-add-first Inv-loop μ-loop
+add-first c = search needs
+
 loop-holds : tie.Need-loop-holds Inv-loop μ-loop
 loop-holds c = (omega arith, refl, refl)
 
@@ -79,6 +82,7 @@ start-within-spec =
     (tie.spec
     Inv-loop
     μ-loop
+    add-first
     loop-holds
     is-correct-requires
     time-at-requires

@@ -2,7 +2,7 @@
 use mathlib.Core.Path.{sym, _∙_}
 use Rattle.protocol.proofs.Fits.{few-bytes}
 use Rattle.data_bytes.proofs.Words.{accepted-words}
-use Rattle.trace_last.proofs.Last.{cause-line, sheet-line, shown}
+use Rattle.trace_last.proofs.Last.{cause-line, sheet-line, last-line-written}
 use native.Mathlib.Omega.{arith}
 use borrow.Author.Needs.{needs}
 use Rattle.trace_last.proofs.put_last_line.Statement.{statement}
@@ -41,7 +41,7 @@ returns c =
     let refused = c .before .before in
     let v = refused .before .before .before .before .before in
     let s = v .before .before .before .args in
-    shown (s .bytes .now) (s .out .now) _ _ _ (cause-line (s .bytes .now) _ (v .bytes-verdict .ensures) _ (refused .before .before .before .v .given .1)) (refused .put-refused .ensures)
+    last-line-written (s .bytes .now) (s .out .now) _ _ _ (cause-line (s .bytes .now) _ (v .bytes-verdict .ensures) _ (refused .before .before .before .v .given .1)) (refused .put-refused .ensures)
 
 same-length-2 : tie.Need-same-length-2
 same-length-2 c = search needs
@@ -54,7 +54,7 @@ returns-2 c =
     let s = v .before .before .before .args in
     let accepted = told .enum-told .given .1 in
     let words = sheet .before .before .before .big-endian .ensures .1 (few-bytes _ (sym (v .bytes-verdict .ensures) ∙ accepted)) in
-    shown (s .bytes .now) (s .out .now) _ _ _ (sheet-line (s .bytes .now) _ (v .bytes-verdict .ensures) accepted _ words) (sheet .put-sheet-line .ensures)
+    last-line-written (s .bytes .now) (s .out .now) _ _ _ (sheet-line (s .bytes .now) _ (v .bytes-verdict .ensures) accepted _ words) (sheet .put-sheet-line .ensures)
 
 pub put-last-line-spec : {M : Type 1} → statement M
 put-last-line-spec =

@@ -3,7 +3,7 @@ use mathlib.Core.List.{[], _∷_}
 use Rattle.protocol.specs.Program.{decimal, line}
 use Rattle.print_lines.proofs.Lines.{and-then, field-then, last-field}
 use Rattle.trace_text.specs.Text.{numberText, choiceText, entryFields, entryText}
-use Rattle.trace_text.proofs.Fields.{fields-line, shown}
+use Rattle.trace_text.proofs.Fields.{fields-line, entry-line-written}
 use borrow.Author.Needs.{needs}
 use Rattle.trace_text.proofs.put_entry_line.Statement.{statement}
 use Rattle.trace_text.proofs.put_entry_line.Tie as tie
@@ -42,7 +42,7 @@ returns c =
     let x = numberText (l .adjuster) (l .adjustment .0) in
     let o = decimal (l .outcome) in
     let entry = decimal (s .args .i) ∷ decimal (l .time .0) ∷ decimal (l .head) ∷ decimal (l .action) ∷ [] in
-    shown (s .args .i) l (s .args .out .now) _ _
+    entry-line-written (s .args .i) l (s .args .out .now) _ _
     (rw (fields-line entry k (a ∷ x ∷ o ∷ []))
     (and-then (s .args .out .now) _ _ 0 _ _ (entryFields (s .args .i) (l .time .0) (l .head) (l .action)) (line (k ∷ a ∷ x ∷ o ∷ [])) (s .good .1 .1 .0 .0) (c .before .before .before .before .before .before .before .before .before .before .before .before .before .before .before .before .before .before .before .before .before .before .before .put-entry .ensures) (λ h.
     field-then _ _ _ _ _ _ k a (x ∷ o ∷ []) h (c .before .before .before .before .before .before .before .before .before .before .before .before .before .before .before .before .before .before .before .put-choice .ensures) (λ h.
