@@ -126,7 +126,10 @@ pub fn edges(index: usize, record: &Record) -> [u32; 9] {
 
 /// What the reference says to an action: the record and frame after it, or a
 /// cause. A mark "none" that is neither 0 nor 1 is out of its range.
-fn expected(record: Option<&Record>, numbers: &InputNumbers) -> Result<(Record, Option<Frame>), Cause> {
+fn expected(
+    record: Option<&Record>,
+    numbers: &InputNumbers,
+) -> Result<(Record, Option<Frame>), Cause> {
     let record = record.filter(|r| r.in_ranges()).ok_or(Cause(10))?;
     if numbers[6] > 1 {
         return Err(Cause(6));
