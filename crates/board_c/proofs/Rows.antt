@@ -21,7 +21,7 @@ use Rattle.protocol.specs.Record.{reading, readingOr0, fresh, recordInRange}
 use Rattle.protocol.specs.Step.{effect, withLast, actionOf, step, refused}
 use Rattle.protocol.specs.Run.{carriedReading}
 use Rattle.protocol.specs.Causes.{causeNumber}
-use Rattle.protocol.specs.Row.{rowOf, recordIn, rowFits, rowInRange, sentOf}
+use Rattle.protocol.specs.Row.{rowLength, rowOf, recordIn, rowFits, rowInRange, sentOf}
 use Rattle.protocol.specs.Board.{verdictNumber, freshVerdict, freshRow, rowStep, rowAfter, frameNumbers, rowVerdict, resultIf, correctionIf}
 use Rattle.protocol.proofs.Tests.{and-right}
 use Rattle.protocol.proofs.Fits.{input-fits}
@@ -37,7 +37,7 @@ use Rattle.board_c.specs.Numbers.{AreNumbers, IsCorrection}
 
 -- A ROW IN ITS RANGES
 
-module _ (w : List ℕ) (long : length w ≡ 80) (h : rowInRange w ≡ true) where
+module _ (w : List ℕ) (long : length w ≡ rowLength) (h : rowInRange w ≡ true) where
   record-ranged : recordInRange (recordIn w) ≡ true
   unfolding rowInRange
   record-ranged = and-right (rowFits w) _ h
@@ -52,7 +52,7 @@ module _ (w : List ℕ) (i : Input) where
   abbrev acts : HeadRecord → Stepped
   acts r = effect (withLast r (reading (i .reading))) (actionOf i)
 
-  module _ (long : length w ≡ 80) (v : Verdict) (is : v ≡ rowStep w i .verdict) (e : v ≡ Accepted) where
+  module _ (long : length w ≡ rowLength) (v : Verdict) (is : v ≡ rowStep w i .verdict) (e : v ≡ Accepted) where
     taken : AcceptedStep w i
     taken = accepted-step w i (sym is ∙ e)
 
@@ -103,7 +103,7 @@ module _ (w : List ℕ) (i : Input) where
 -- THE RESULT
 
 module _ (w : List ℕ) (b : Bool) (is : b ≡ rowInRange w) where
-  pub result-read : length w ≡ 80 → b ≡ true → (x : List ℕ) → IsResult w x → (0 ≡ verdictNumber (rowVerdict w)) × (x ≡ resultIf (rowVerdict w) (recordIn w))
+  pub result-read : length w ≡ rowLength → b ≡ true → (x : List ℕ) → IsResult w x → (0 ≡ verdictNumber (rowVerdict w)) × (x ≡ resultIf (rowVerdict w) (recordIn w))
   unfolding rowVerdict
   result-read long e x result =
       let h = sym is ∙ e in
@@ -113,7 +113,7 @@ module _ (w : List ℕ) (b : Bool) (is : b ≡ rowInRange w) where
   unfolding rowVerdict
   not-in-range e = rw (sym is ∙ e) (refl, refl)
 
-  pub correction-read : length w ≡ 80 → b ≡ true → (x : List ℕ) → IsResult w x → (z : ℤ) → IsCorrection x z → z ≡ correctionIf (rowVerdict w) (recordIn w)
+  pub correction-read : length w ≡ rowLength → b ≡ true → (x : List ℕ) → IsResult w x → (z : ℤ) → IsCorrection x z → z ≡ correctionIf (rowVerdict w) (recordIn w)
   unfolding rowVerdict
   correction-read long e x result z corrects =
       let h = sym is ∙ e in

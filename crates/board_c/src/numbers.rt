@@ -2,6 +2,7 @@
 use head_ranges::heads_fit;
 use protocol::Cause;
 use protocol::Input;
+use protocol::ROW_LENGTH;
 use protocol::Row;
 use protocol::Sent;
 use protocol::Verdict;
@@ -11,13 +12,14 @@ ghost use lib.Dec.{ltb};
 ghost use lib.ListN.{length};
 ghost use lib.IntN.{subℕ};
 ghost use Rattle.protocol.specs.Board.{freshVerdict, inputIn};
+ghost use Rattle.protocol.specs.Row.{rowLength};
 ghost use Rattle.board_c.specs.Numbers.{AreNumbers, IsCorrection};
 
-// That a row has eighty numbers, which a reference to one does not say by itself. Nothing of it is left in the machine code.
+// The length of a row, which a reference to one does not say by itself. Nothing of it is left in the machine code.
 pub fn row_length(row: Row) -> usize
-    ensures { λ n. ⌜ (n ≡ 80) × (length row ≡ 80) ⌝ }
+    ensures { λ n. ⌜ (n ≡ rowLength) × (length row ≡ rowLength) ⌝ }
 {
-    80
+    ROW_LENGTH
 }
 
 // Cause 3 if n or f is against the first word's rules, 6 if own is not below n.

@@ -18,7 +18,7 @@ use Rattle.protocol.specs.declared.Frame.{Frame}
 use Rattle.protocol.specs.declared.Frame.the-variants.{NoFrame, Start, Vote, Adjust}
 use Rattle.protocol.specs.Record.{reading, recordInRange}
 use Rattle.protocol.specs.Step.{accepted, refused, withLast, effect, takeAction, actionOf, inputFits, step}
-use Rattle.protocol.specs.Row.{rowOf, recordIn, rowFits, rowInRange}
+use Rattle.protocol.specs.Row.{rowLength, rowOf, recordIn, rowFits, rowInRange}
 use Rattle.protocol.specs.Board.{rowStep}
 use Rattle.protocol.proofs.Tests.{cases, and-left}
 use Rattle.protocol.proofs.Fits.{input-fits}
@@ -34,7 +34,7 @@ use Rattle.head_causes.proofs.Taken.{AcceptedStep, accepted-step}
 use Rattle.head_record.specs.Bytes.{Holds, FrameSized, StandsFor}
 
 -- a row of eighty numbers is that of a record with sixteen senders
-sixteen-of : (r : HeadRecord) → length (rowOf r) ≡ 80 → length (r .senders) ≡ 16
+sixteen-of : (r : HeadRecord) → length (rowOf r) ≡ rowLength → length (r .senders) ≡ 16
 unfolding rowOf
 sixteen-of r e = let sum = simp (length-append, length-map) at e in omega arith
 
@@ -45,7 +45,7 @@ frame-sized n small Start h = tt
 frame-sized n small (Vote k c x) h = let a = h .serial in let b = h .choice in (omega arith, omega arith, h .reading)
 frame-sized n small (Adjust k c x) h = let a = h .serial in let b = h .choice in (omega arith, omega arith, h .reading)
 
-module _ (r : HeadRecord) (i : Input) (row : List ℕ) (is-row : row ≡ rowOf r) (long : length row ≡ 80) where
+module _ (r : HeadRecord) (i : Input) (row : List ℕ) (is-row : row ≡ rowOf r) (long : length row ≡ rowLength) where
   sixteen : length (r .senders) ≡ 16
   sixteen = sixteen-of r (ap length (sym is-row) ∙ long)
 

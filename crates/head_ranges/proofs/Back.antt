@@ -18,7 +18,7 @@ use Rattle.protocol.specs.declared.HeadRecord.{HeadRecord}
 use Rattle.protocol.specs.Base.{allBelow, table}
 use Rattle.protocol.specs.Words.{isTime, headsFit}
 use Rattle.protocol.specs.Record.{isReading, isNumber, readingOr0, noSender, keptOf, startOf, voteOf, marksNumber, readingInRange, senderInRange, senderIsNone, phaseInRange, marksInRange, recordInRange}
-use Rattle.protocol.specs.Row.{numberPlus1, readingPlus1, ownNumbers, startNumber, voteNumber, votedNumber, adjustedNumber, rowOf, numberIn, readingIn, senderIn, recordIn, rowFits, rowInRange}
+use Rattle.protocol.specs.Row.{numberPlus1, readingPlus1, ownNumbers, startNumber, voteNumber, votedNumber, adjustedNumber, rowLength, rowOf, numberIn, readingIn, senderIn, recordIn, rowFits, rowInRange}
 use Rattle.protocol.proofs.Tests.{cases, and-left, and-right, parts}
 use Rattle.protocol.proofs.Tables.{length-table, table-at, is-table}
 use Rattle.protocol.proofs.Effects.{withSenders}
@@ -157,7 +157,7 @@ record-of-row r e long =
 table-same : (f g : ℕ → ℕ) (k : ℕ) → ((p : ℕ) → p < k → f p ≡ g p) → table f 0 k ≡ table g 0 k
 table-same f g k same = is-table g k 0 (table f 0 k) (length-table f 0 k) (λ p lt. table-at f k p 0 lt ∙ same p lt)
 
-module _ (w : List ℕ) (long : length w ≡ 80) (e : rowInRange w ≡ true) where
+module _ (w : List ℕ) (long : length w ≡ rowLength) (e : rowInRange w ≡ true) where
   abbrev at : ℕ → ℕ
   at i = getD w i 0
 
@@ -198,7 +198,7 @@ module _ (w : List ℕ) (long : length w ≡ 80) (e : rowInRange w ≡ true) whe
   pub row-of-record : w ≡ rowOf (recordIn w)
   unfolding rowOf recordIn
   row-of-record =
-      is-table at 80 0 w long (λ p short. refl)
+      is-table at rowLength 0 w long (λ p short. refl)
       ∙ ap₂ _++_ own-part
       (ap₂ _++_ (field-part startNumber 16 (λ p short. sym (reading-forth (at (16 + p)) (readings p short .0))))
       (ap₂ _++_ (field-part voteNumber 32 (λ p short. sym (reading-forth (at (32 + p)) (readings p short .1))))

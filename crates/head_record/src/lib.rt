@@ -8,7 +8,7 @@ use protocol::HeadRecord;
 use protocol::OptNumber;
 use protocol::OptReading;
 use protocol::Phase;
-use protocol::ROW_NUMBERS;
+use protocol::ROW_LENGTH;
 use protocol::Reading;
 use protocol::Row;
 use protocol::Sender;
@@ -77,7 +77,7 @@ fn bare_row(r: HeadRecord) -> Row
     let adjust = r.adjust;
     let candidate = vote.choice;
     let adjuster = adjust.choice;
-    let mut row = [0u32; ROW_NUMBERS];
+    let mut row = [0u32; ROW_LENGTH];
     row[0] = r.last.0;
     row[1] = marks_number(r);
     row[2] = number_plus_1(candidate);

@@ -18,7 +18,7 @@ use Rattle.protocol.specs.declared.Phase.{Phase}
 use Rattle.protocol.specs.declared.HeadRecord.{HeadRecord}
 use Rattle.protocol.specs.Record.{noSender, keptOf, startOf, voteOf, marksNumber}
 use Rattle.protocol.specs.Step.{withStart, withVoteReading, withVoted, withAdjusted, choose, withLast, withVote, withAdjust, withSender}
-use Rattle.protocol.specs.Row.{numberPlus1, readingPlus1, ownNumbers, startNumber, voteNumber, votedNumber, adjustedNumber, rowOf}
+use Rattle.protocol.specs.Row.{numberPlus1, readingPlus1, ownNumbers, startNumber, voteNumber, votedNumber, adjustedNumber, rowLength, rowOf}
 use Rattle.protocol.proofs.Effects.{withSenders}
 use Rattle.protocol.proofs.Ranges.{Every}
 
@@ -112,7 +112,7 @@ module _ (r : HeadRecord) (long : length (r .senders) ≡ 16) where
   all-sixteen : Sixteens (fieldsBy fields (r .senders))
   all-sixteen = (field-length startNumber, (field-length voteNumber, (field-length votedNumber, (field-length adjustedNumber, tt))))
 
-  pub row-length : length (rowOf r) ≡ 80
+  pub row-length : length (rowOf r) ≡ rowLength
   unfolding rowOf
   row-length =
       simp (length-append, length-map, long)

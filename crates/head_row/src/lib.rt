@@ -1,5 +1,5 @@
 // A head's row of numbers before its first action.
-use protocol::ROW_NUMBERS;
+use protocol::ROW_LENGTH;
 use protocol::Row;
 ghost use mathlib.Core.Path.{_≡_};
 ghost use Rattle.protocol.specs.Record.{fresh};
@@ -9,7 +9,7 @@ ghost use Rattle.protocol.specs.Row.{rowOf};
 pub fn fresh_row(n: u32, f: u32, own: u32) -> Row
     ensures { λ w. ⌜ w ≡ rowOf (fresh n f own) ⌝ }
 {
-    let mut row = [0u32; ROW_NUMBERS];
+    let mut row = [0u32; ROW_LENGTH];
     row[7] = n;
     row[8] = f;
     row[9] = own;

@@ -2,7 +2,7 @@
 -- 0 for none, else one more than itself.
 use mathlib.Core.Bool.{Bool, cond, _&&_}
 use mathlib.Core.List.{List, [], _∷_, _++_, map}
-use Prim.Native.Nat.{ℕ, _+_, _-_, _^_}
+use Prim.Native.Nat.{ℕ, _+_, _-_, _*_, _^_}
 use lib.Dec.{eqb}
 use lib.ListN.{getD}
 use Rattle.protocol.specs.Base.{table}
@@ -39,6 +39,10 @@ votedNumber k = numberPlus1 (k .voted)
 
 abbrev pub adjustedNumber : Sender → ℕ
 adjustedNumber k = numberPlus1 (k .adjusted)
+
+-- the row: its first numbers, then sixteen by sender for each of four fields
+abbrev pub rowLength : ℕ
+rowLength = 16 + 16 * 4
 
 unfoldable pub rowOf : HeadRecord → List ℕ
 rowOf r =

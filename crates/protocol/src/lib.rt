@@ -53,11 +53,11 @@ pub struct HeadRecord {
     pub senders: [Sender; 16],
 }
 
-// A head's record as a row of numbers, in the memory that a board lends: specs/Row.antt says which stands for what. No other
-// place knows how many they are.
-pub const ROW_NUMBERS: usize = 80;
+// A head's record as a row of numbers, in the memory that a board lends: specs/Row.antt says which stands for what, and
+// how many they are (rowLength). No other place of the code does.
+pub const ROW_LENGTH: usize = 80;
 
-pub type Row = [u32; ROW_NUMBERS];
+pub type Row = [u32; ROW_LENGTH];
 
 // The ten actions, in the order of their numbers. A delivered vote or adjust has its sender, its serial, and what it carries.
 pub enum Action {

@@ -1,5 +1,6 @@
 use mathlib.Core.Path.{_≡_}
 use lib.ListN.{length}
+use Rattle.protocol.specs.Row.{rowLength}
 use Rattle.head_by_value.proofs.Steps.{refused-step, taken-step}
 use borrow.Author.Needs.{needs}
 use Rattle.head_by_value.proofs.step.Statement.{statement}
@@ -30,7 +31,7 @@ returns : tie.Need-returns
 returns c =
     let of = c .before .before .before .before .before .before .before .before .before .row-of in
     let args = c .before .before .before .before .before .before .before .before .before .before .args in
-    let long : length (of .result) ≡ 80 = search needs in
+    let long : length (of .result) ≡ rowLength = search needs in
     taken-step (args .r) (args .i) (of .result) (of .ensures) long _ (c .before .before .before .before .before .before .before .row-verdict .ensures)
     (c .before .before .before .before .before .enum-told .given .1) _ _ (c .before .before .before .effect .ensures) _ (c .before .record-in .ensures) _ (c .frame-in .ensures)
 
@@ -38,7 +39,7 @@ returns-2 : tie.Need-returns-2
 returns-2 c =
     let of = c .before .before .before .before .before .row-of in
     let args = c .before .before .before .before .before .before .args in
-    let long : length (of .result) ≡ 80 = search needs in
+    let long : length (of .result) ≡ rowLength = search needs in
     refused-step (args .r) (args .i) (of .result) (of .ensures) long _ (c .before .before .before .row-verdict .ensures) _ (c .before .v .given .1)
 
 pub step-spec : {M : Type 1} → statement M
