@@ -6,6 +6,7 @@ use protocol::Cause;
 use protocol::Input;
 use protocol::Row;
 use protocol::Verdict;
+use protocol::at;
 ghost use mathlib.Core.Path.{_≡_};
 ghost use mathlib.Core.Bool.{_&&_, _||_};
 ghost use lib.Dec.{eqb};
@@ -30,11 +31,11 @@ pub fn row_verdict(row: &Row, i: Input) -> Verdict
     ensures { λ v. ⌜ v ≡ rowStep (now (row .entry)) i .verdict ⌝ }
 {
     if row_in_range(row) {
-        if input_fits(row[7], i) {
-            if i.reading < row[0] {
+        if input_fits(row[at::HEADS], i) {
+            if i.reading < row[at::LAST] {
                 return Verdict::Refused(Cause::ReadingFell);
             }
-            if is_closed(i, row[1], row[9]) {
+            if is_closed(i, row[at::MARKS], row[at::OWN]) {
                 return Verdict::Refused(Cause::ActionClosed);
             }
             return Verdict::Accepted;

@@ -1,5 +1,6 @@
 // How many readings a head's row holds, and the median of its vote readings by counting ranks.
 use protocol::Row;
+use protocol::at;
 ghost use mathlib.Core.Path.{_≡_};
 ghost use mathlib.Core.Bool.{true};
 ghost use Prim.Native.Nat.{_-_, _≤_, _<_};
@@ -15,7 +16,7 @@ ghost use Rattle.head_median.specs.Readings.{headsIn, holds, heldIn, rea
 fn heads_in(row: &Row) -> usize
     ensures { λ n. ⌜ (n ≡ headsIn (now (row .entry))) × (n ≤ 16) ⌝ }
 {
-    let n = row[7];
+    let n = row[at::HEADS];
     if n < 16 { n as usize } else { 16 }
 }
 
@@ -44,13 +45,13 @@ fn readings_held(row: &Row, from: usize) -> u32
 pub fn starts_held(row: &Row) -> u32
     ensures { λ k. ⌜ Reads startsHeld (now (row .entry)) k ⌝ }
 {
-    readings_held(row, 16)
+    readings_held(row, at::START_READINGS)
 }
 
 pub fn votes_held(row: &Row) -> u32
     ensures { λ k. ⌜ Reads (λ (r : HeadRecord). length (voteReadings r (r .n))) (now (row .entry)) k ⌝ }
 {
-    readings_held(row, 32)
+    readings_held(row, at::VOTE_READINGS)
 }
 
 // 1 if y is the number of a reading below that of x; and if it is the number of one that is at most that of x.
@@ -87,7 +88,7 @@ fn stands_at(row: &Row, x: u32, index: u32) -> bool
     let mut upto: u32 = 0;
     let mut p: usize = 0;
     while p < heads {
-        let y = row[32 + p];
+        let y = row[at::VOTE_READINGS + p];
         below += is_below(y, x);
         upto += is_upto(y, x);
         p += 1;
@@ -102,7 +103,7 @@ fn vote_at(row: &Row, index: u32) -> u32
     let heads = heads_in(row);
     let mut p: usize = 0;
     while p < heads {
-        let x = row[32 + p];
+        let x = row[at::VOTE_READINGS + p];
         if stands_at(row, x, index) {
             return x - 1;
         }

@@ -1,4 +1,5 @@
 // A head's marks in one number, as its row has them, and when they close an action.
+use protocol::mark;
 ghost use mathlib.Core.Path.{_≡_};
 ghost use mathlib.Core.Bool.{cond};
 ghost use Prim.Native.Nat.{_+_, _%_, _^_, _<_};
@@ -28,12 +29,14 @@ pub fn closed_by(a: u32, m: u32) -> bool
     ensures { λ b. ⌜ b ≡ closedBy a m ⌝ }
 {
     match a {
-        1 => has_mark(m, 1) || (has_mark(m, 64) || has_mark(m, 8)),
-        3 => !has_mark(m, 1) || has_mark(m, 2),
-        4 => !has_mark(m, 2) || has_mark(m, 4),
-        6 => has_mark(m, 8),
-        7 => !has_mark(m, 8) || (has_mark(m, 16) || has_mark(m, 32)),
-        9 => !has_mark(m, 8) || has_mark(m, 32),
+        1 => has_mark(m, mark::START_SENT)
+            || (has_mark(m, mark::CANDIDATE) || has_mark(m, mark::VOTE_CLOSE)),
+        3 => !has_mark(m, mark::START_SENT) || has_mark(m, mark::CONFIRMED),
+        4 => !has_mark(m, mark::CONFIRMED) || has_mark(m, mark::VOTE_TURN),
+        6 => has_mark(m, mark::VOTE_CLOSE),
+        7 => !has_mark(m, mark::VOTE_CLOSE)
+            || (has_mark(m, mark::ADJUST_TURN) || has_mark(m, mark::ADJUST_CLOSE)),
+        9 => !has_mark(m, mark::VOTE_CLOSE) || has_mark(m, mark::ADJUST_CLOSE),
         _ => false,
     }
 }

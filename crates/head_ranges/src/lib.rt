@@ -1,6 +1,7 @@
 // Whether a row of numbers holds a record in its ranges.
 use protocol::Row;
 use protocol::TIME_LIMIT;
+use protocol::at;
 ghost use mathlib.Core.Path.{_≡_};
 ghost use mathlib.Core.Bool.{cond, _&&_, _||_};
 ghost use Prim.Native.Nat.{_+_, _%_, _≤_, _<_};
@@ -33,7 +34,7 @@ fn spare_is_zero(row: &Row) -> bool
 fn row_fits(row: &Row) -> bool
     ensures { λ b. ⌜ b ≡ rowFits (now (row .entry)) ⌝ }
 {
-    marks_agree(row[1], row[2]) && spare_is_zero(row)
+    marks_agree(row[at::MARKS], row[at::CANDIDATE]) && spare_is_zero(row)
 }
 
 // 2f + 1 is at most n where f is less than half of n, rounded up.
@@ -88,11 +89,12 @@ fn numbers_beyond(row: &Row, p: u32) -> u32
     ensures { λ k. ⌜ k ≡ beyond (now (row .entry)) p ⌝ }
 {
     let i = p as usize;
-    let reading = greatest(row[7], p, TIME_LIMIT);
-    let serial = greatest(row[7], p, 16);
-    one_if_less(reading, row[16 + i])
-        + one_if_less(reading, row[32 + i])
-        + (one_if_less(serial, row[48 + i]) + one_if_less(serial, row[64 + i]))
+    let reading = greatest(row[at::HEADS], p, TIME_LIMIT);
+    let serial = greatest(row[at::HEADS], p, 16);
+    one_if_less(reading, row[at::START_READINGS + i])
+        + one_if_less(reading, row[at::VOTE_READINGS + i])
+        + (one_if_less(serial, row[at::VOTE_SERIALS + i])
+            + one_if_less(serial, row[at::ADJUST_SERIALS + i]))
 }
 
 // A sum without branches, which takes several senders at once.
@@ -112,11 +114,11 @@ fn senders_in_range(row: &Row) -> bool
 pub fn row_in_range(row: &Row) -> bool
     ensures { λ b. ⌜ b ≡ rowInRange (now (row .entry)) ⌝ }
 {
-    let n = row[7];
+    let n = row[at::HEADS];
     row_fits(row)
-        && (own_fits(n, row[8], row[9])
-            && (times_fit(row[0], row[6], row[4])
-                && (phase_fits(n, row[2], row[3])
-                    && (phase_fits(n, row[4], row[5])
-                        && (marks_fit(row[1]) && senders_in_range(row))))))
+        && (own_fits(n, row[at::FAULTY], row[at::OWN])
+            && (times_fit(row[at::LAST], row[at::ADJUSTMENT], row[at::ADJUSTER])
+                && (phase_fits(n, row[at::CANDIDATE], row[at::VOTES_SENT])
+                    && (phase_fits(n, row[at::ADJUSTER], row[at::ADJUSTS_SENT])
+                        && (marks_fit(row[at::MARKS]) && senders_in_range(row))))))
 }

@@ -14,6 +14,8 @@ use protocol::Row;
 use protocol::Sender;
 use protocol::Sent;
 use protocol::TIME_LIMIT;
+use protocol::at;
+use protocol::mark;
 ghost use mathlib.Core.Path.{_≡_};
 ghost use mathlib.Core.List.{map};
 ghost use Prim.Native.Nat.{_%_, _<_, _≤_};
@@ -60,13 +62,13 @@ fn marks_number(r: HeadRecord) -> u32
     let v = r.vote;
     let choice = v.choice;
     let candidate = is_number(choice);
-    mark_number(r.started, 1)
-        + mark_number(r.confirmed, 2)
-        + mark_number(r.vote.turn, 4)
-        + mark_number(r.vote.closed, 8)
-        + mark_number(r.adjust.turn, 16)
-        + mark_number(r.adjust.closed, 32)
-        + mark_number(candidate, 64)
+    mark_number(r.started, mark::START_SENT)
+        + mark_number(r.confirmed, mark::CONFIRMED)
+        + mark_number(r.vote.turn, mark::VOTE_TURN)
+        + mark_number(r.vote.closed, mark::VOTE_CLOSE)
+        + mark_number(r.adjust.turn, mark::ADJUST_TURN)
+        + mark_number(r.adjust.closed, mark::ADJUST_CLOSE)
+        + mark_number(candidate, mark::CANDIDATE)
 }
 
 // The head's own numbers, and nothing kept by sender.
@@ -78,16 +80,16 @@ fn bare_row(r: HeadRecord) -> Row
     let candidate = vote.choice;
     let adjuster = adjust.choice;
     let mut row = [0u32; ROW_LENGTH];
-    row[0] = r.last.0;
-    row[1] = marks_number(r);
-    row[2] = number_plus_1(candidate);
-    row[3] = vote.sent as u32;
-    row[4] = number_plus_1(adjuster);
-    row[5] = adjust.sent as u32;
-    row[6] = r.adjustment.0;
-    row[7] = r.n as u32;
-    row[8] = r.f as u32;
-    row[9] = r.own as u32;
+    row[at::LAST] = r.last.0;
+    row[at::MARKS] = marks_number(r);
+    row[at::CANDIDATE] = number_plus_1(candidate);
+    row[at::VOTES_SENT] = vote.sent as u32;
+    row[at::ADJUSTER] = number_plus_1(adjuster);
+    row[at::ADJUSTS_SENT] = adjust.sent as u32;
+    row[at::ADJUSTMENT] = r.adjustment.0;
+    row[at::HEADS] = r.n as u32;
+    row[at::FAULTY] = r.f as u32;
+    row[at::OWN] = r.own as u32;
     row
 }
 
@@ -99,10 +101,10 @@ fn put_sender(row: &mut Row, p: usize, k: Sender)
     let vote = k.vote;
     let voted = k.voted;
     let adjusted = k.adjusted;
-    row[16 + p] = reading_plus_1(start);
-    row[32 + p] = reading_plus_1(vote);
-    row[48 + p] = number_plus_1(voted);
-    row[64 + p] = number_plus_1(adjusted);
+    row[at::START_READINGS + p] = reading_plus_1(start);
+    row[at::VOTE_READINGS + p] = reading_plus_1(vote);
+    row[at::VOTE_SERIALS + p] = number_plus_1(voted);
+    row[at::ADJUST_SERIALS + p] = number_plus_1(adjusted);
 }
 
 // What is kept by sender, each number at its index.
@@ -148,10 +150,10 @@ fn sender_in(row: &Row, p: usize) -> Sender
     requires { ⌜ p < 16 ⌝ }
     ensures { λ k. ⌜ k ≡ cutSender (senderIn (now (row .entry)) p) ⌝ }
 {
-    let start = reading_in(row[16 + p]);
-    let vote = reading_in(row[32 + p]);
-    let voted = number_in(row[48 + p]);
-    let adjusted = number_in(row[64 + p]);
+    let start = reading_in(row[at::START_READINGS + p]);
+    let vote = reading_in(row[at::VOTE_READINGS + p]);
+    let voted = number_in(row[at::VOTE_SERIALS + p]);
+    let adjusted = number_in(row[at::ADJUST_SERIALS + p]);
     Sender {
         start,
         vote,
@@ -192,20 +194,32 @@ fn phase_in(marks: u32, turn: u32, closed: u32, choice: u32, sent: u32) -> Phase
 pub fn record_in(row: &Row) -> HeadRecord
     ensures { λ r. ⌜ Holds (now (row .entry)) r ⌝ }
 {
-    let marks = row[1];
-    let vote = phase_in(marks, 4, 8, row[2], row[3]);
-    let adjust = phase_in(marks, 16, 32, row[4], row[5]);
+    let marks = row[at::MARKS];
+    let vote = phase_in(
+        marks,
+        mark::VOTE_TURN,
+        mark::VOTE_CLOSE,
+        row[at::CANDIDATE],
+        row[at::VOTES_SENT],
+    );
+    let adjust = phase_in(
+        marks,
+        mark::ADJUST_TURN,
+        mark::ADJUST_CLOSE,
+        row[at::ADJUSTER],
+        row[at::ADJUSTS_SENT],
+    );
     let senders = senders_in(row);
     HeadRecord {
-        n: byte(row[7]),
-        f: byte(row[8]),
-        own: byte(row[9]),
-        last: Reading(row[0]),
-        started: has_mark(marks, 1),
-        confirmed: has_mark(marks, 2),
+        n: byte(row[at::HEADS]),
+        f: byte(row[at::FAULTY]),
+        own: byte(row[at::OWN]),
+        last: Reading(row[at::LAST]),
+        started: has_mark(marks, mark::START_SENT),
+        confirmed: has_mark(marks, mark::CONFIRMED),
         vote,
         adjust,
-        adjustment: Reading(row[6]),
+        adjustment: Reading(row[at::ADJUSTMENT]),
         senders,
     }
 }

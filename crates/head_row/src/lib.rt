@@ -1,6 +1,7 @@
 // A head's row of numbers before its first action.
 use protocol::ROW_LENGTH;
 use protocol::Row;
+use protocol::at;
 ghost use mathlib.Core.Path.{_≡_};
 ghost use Rattle.protocol.specs.Record.{fresh};
 ghost use Rattle.protocol.specs.Row.{rowOf};
@@ -10,8 +11,8 @@ pub fn fresh_row(n: u32, f: u32, own: u32) -> Row
     ensures { λ w. ⌜ w ≡ rowOf (fresh n f own) ⌝ }
 {
     let mut row = [0u32; ROW_LENGTH];
-    row[7] = n;
-    row[8] = f;
-    row[9] = own;
+    row[at::HEADS] = n;
+    row[at::FAULTY] = f;
+    row[at::OWN] = own;
     row
 }

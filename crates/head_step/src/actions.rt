@@ -9,6 +9,8 @@ use head_open::has_mark;
 use head_open::with_mark;
 use protocol::Row;
 use protocol::Sent;
+use protocol::at;
+use protocol::mark;
 ghost use mathlib.Core.Path.{_≡_};
 ghost use mathlib.Core.Bool.{_||_};
 ghost use Prim.Native.Nat.{_+_, _%_, _^_, _<_};
@@ -25,7 +27,7 @@ ghost use Rattle.head_row.specs.Promises.{Acts};
 pub fn start_sent(row: &mut Row) -> Sent
     ensures { λ s. ⌜ Acts (λ (r : HeadRecord). effect r StartSent) (now (row .entry)) (now (row .exit)) s ⌝ }
 {
-    row[1] = with_mark(row[1], 1);
+    row[at::MARKS] = with_mark(row[at::MARKS], mark::START_SENT);
     Sent {
         kind: 2,
         serial: 0,
@@ -37,24 +39,24 @@ pub fn start_sent(row: &mut Row) -> Sent
 pub fn start_delivered(row: &mut Row, p: u32) -> Sent
     ensures { λ s. ⌜ (p < 16 → Acts (λ (r : HeadRecord). effect r (StartDelivered p)) (now (row .entry)) (now (row .exit)) s) ⌝ }
 {
-    if has_mark(row[1], 32) {
+    if has_mark(row[at::MARKS], mark::ADJUST_CLOSE) {
         return no_frame();
     }
-    row[16 + head_index(p)] = std::num::wrapping_add_u32(row[0], 1);
+    row[at::START_READINGS + head_index(p)] = std::num::wrapping_add_u32(row[at::LAST], 1);
     lead(row)
 }
 
 pub fn start_confirmed(row: &mut Row) -> Sent
     ensures { λ s. ⌜ Acts (λ (r : HeadRecord). effect r StartConfirmed) (now (row .entry)) (now (row .exit)) s ⌝ }
 {
-    row[1] = with_mark(row[1], 2);
+    row[at::MARKS] = with_mark(row[at::MARKS], mark::CONFIRMED);
     no_frame()
 }
 
 pub fn vote_turn(row: &mut Row) -> Sent
     ensures { λ s. ⌜ Acts (λ (r : HeadRecord). effect r VoteTurn) (now (row .entry)) (now (row .exit)) s ⌝ }
 {
-    row[1] = with_mark(row[1], 4);
+    row[at::MARKS] = with_mark(row[at::MARKS], mark::VOTE_TURN);
     lead(row)
 }
 
@@ -77,12 +79,16 @@ pub fn vote_delivered(row: &mut Row, p: u32, serial: u32, c: u32, x: u32) -> Sen
         → Acts (λ (r : HeadRecord). effect r (VoteDelivered p serial c y)) (now (row .entry)) (now (row .exit)) s) ⌝ }
 {
     let q = head_index(p);
-    if passed_over(has_mark(row[1], 8), row[48 + q], serial) {
+    if passed_over(
+        has_mark(row[at::MARKS], mark::VOTE_CLOSE),
+        row[at::VOTE_SERIALS + q],
+        serial,
+    ) {
         return no_frame();
     }
-    row[32 + q] = x;
-    row[48 + q] = std::num::wrapping_add_u32(serial, 1);
-    if outranks(c, row[2]) {
+    row[at::VOTE_READINGS + q] = x;
+    row[at::VOTE_SERIALS + q] = std::num::wrapping_add_u32(serial, 1);
+    if outranks(c, row[at::CANDIDATE]) {
         return vote(row, c);
     }
     no_frame()
@@ -91,14 +97,14 @@ pub fn vote_delivered(row: &mut Row, p: u32, serial: u32, c: u32, x: u32) -> Sen
 pub fn vote_close(row: &mut Row) -> Sent
     ensures { λ s. ⌜ Acts (λ (r : HeadRecord). effect r VoteClose) (now (row .entry)) (now (row .exit)) s ⌝ }
 {
-    row[1] = with_mark(row[1], 8);
+    row[at::MARKS] = with_mark(row[at::MARKS], mark::VOTE_CLOSE);
     no_frame()
 }
 
 pub fn adjust_turn(row: &mut Row) -> Sent
     ensures { λ s. ⌜ Acts (λ (r : HeadRecord). effect r AdjustTurn) (now (row .entry)) (now (row .exit)) s ⌝ }
 {
-    row[1] = with_mark(row[1], 16);
+    row[at::MARKS] = with_mark(row[at::MARKS], mark::ADJUST_TURN);
     propose(row)
 }
 
@@ -107,11 +113,15 @@ pub fn adjust_delivered(row: &mut Row, p: u32, serial: u32, a: u32, x: u32) -> S
         → Acts (λ (r : HeadRecord). effect r (AdjustDelivered p serial a (reading x))) (now (row .entry)) (now (row .exit)) s) ⌝ }
 {
     let q = head_index(p);
-    if passed_over(has_mark(row[1], 32), row[64 + q], serial) {
+    if passed_over(
+        has_mark(row[at::MARKS], mark::ADJUST_CLOSE),
+        row[at::ADJUST_SERIALS + q],
+        serial,
+    ) {
         return no_frame();
     }
-    row[64 + q] = std::num::wrapping_add_u32(serial, 1);
-    if outranks(a, row[4]) {
+    row[at::ADJUST_SERIALS + q] = std::num::wrapping_add_u32(serial, 1);
+    if outranks(a, row[at::ADJUSTER]) {
         return adjust(row, a, x);
     }
     no_frame()
@@ -120,6 +130,6 @@ pub fn adjust_delivered(row: &mut Row, p: u32, serial: u32, a: u32, x: u32) -> S
 pub fn adjust_close(row: &mut Row) -> Sent
     ensures { λ s. ⌜ Acts (λ (r : HeadRecord). effect r AdjustClose) (now (row .entry)) (now (row .exit)) s ⌝ }
 {
-    row[1] = with_mark(row[1], 32);
+    row[at::MARKS] = with_mark(row[at::MARKS], mark::ADJUST_CLOSE);
     no_frame()
 }

@@ -6,6 +6,8 @@ use head_open::has_mark;
 use head_open::with_mark;
 use protocol::Row;
 use protocol::Sent;
+use protocol::at;
+use protocol::mark;
 ghost use mathlib.Core.Path.{_≡_};
 ghost use mathlib.Core.Bool.{not, _&&_};
 ghost use Prim.Native.Nat.{_%_, _<_};
@@ -37,13 +39,13 @@ pub fn head_index(p: u32) -> usize
 pub fn vote(row: &mut Row, c: u32) -> Sent
     ensures { λ s. ⌜ (c < 16 → Acts (vote c) (now (row .entry)) (now (row .exit)) s) ⌝ }
 {
-    let serial = row[3];
-    let own = row[9];
-    let x = row[16 + head_index(c)];
-    row[1] = with_mark(row[1], 64);
-    row[2] = std::num::wrapping_add_u32(c, 1);
-    row[3] = std::num::wrapping_add_u32(serial, 1);
-    row[32 + head_index(own)] = x;
+    let serial = row[at::VOTES_SENT];
+    let own = row[at::OWN];
+    let x = row[at::START_READINGS + head_index(c)];
+    row[at::MARKS] = with_mark(row[at::MARKS], mark::CANDIDATE);
+    row[at::CANDIDATE] = std::num::wrapping_add_u32(c, 1);
+    row[at::VOTES_SENT] = std::num::wrapping_add_u32(serial, 1);
+    row[at::VOTE_READINGS + head_index(own)] = x;
     Sent {
         kind: 5,
         serial,
@@ -56,10 +58,10 @@ pub fn vote(row: &mut Row, c: u32) -> Sent
 pub fn adjust(row: &mut Row, a: u32, x: u32) -> Sent
     ensures { λ s. ⌜ (a < 16 → Acts (adjust a (reading x)) (now (row .entry)) (now (row .exit)) s) ⌝ }
 {
-    let serial = row[5];
-    row[4] = std::num::wrapping_add_u32(a, 1);
-    row[5] = std::num::wrapping_add_u32(serial, 1);
-    row[6] = x;
+    let serial = row[at::ADJUSTS_SENT];
+    row[at::ADJUSTER] = std::num::wrapping_add_u32(a, 1);
+    row[at::ADJUSTS_SENT] = std::num::wrapping_add_u32(serial, 1);
+    row[at::ADJUSTMENT] = x;
     Sent {
         kind: 8,
         serial,
@@ -72,14 +74,15 @@ pub fn adjust(row: &mut Row, a: u32, x: u32) -> Sent
 fn waits(marks: u32) -> bool
     ensures { λ b. ⌜ b ≡ (hasMark marks 4 && (not (hasMark marks 8) && not (hasMark marks 64))) ⌝ }
 {
-    has_mark(marks, 4) && (!has_mark(marks, 8) && !has_mark(marks, 64))
+    has_mark(marks, mark::VOTE_TURN)
+        && (!has_mark(marks, mark::VOTE_CLOSE) && !has_mark(marks, mark::CANDIDATE))
 }
 
 // "and at least f + 1 start readings held"
 fn may_lead(row: &Row) -> bool
     ensures { λ b. ⌜ Reads mayLead (now (row .entry)) b ⌝ }
 {
-    waits(row[1]) && row[8] < starts_held(row)
+    waits(row[at::MARKS]) && row[at::FAULTY] < starts_held(row)
 }
 
 // "After 2 and 4: .. h becomes its own candidate and votes"
@@ -87,7 +90,7 @@ pub fn lead(row: &mut Row) -> Sent
     ensures { λ s. ⌜ Acts lead (now (row .entry)) (now (row .exit)) s ⌝ }
 {
     if may_lead(row) {
-        let own = row[9];
+        let own = row[at::OWN];
         return vote(row, own);
     }
     no_frame()
@@ -97,7 +100,7 @@ pub fn lead(row: &mut Row) -> Sent
 fn may_adjust(row: &Row) -> bool
     ensures { λ b. ⌜ Reads mayAdjust (now (row .entry)) b ⌝ }
 {
-    row[2] != 0 && (row[4] == 0 && 1 <= votes_held(row))
+    row[at::CANDIDATE] != 0 && (row[at::ADJUSTER] == 0 && 1 <= votes_held(row))
 }
 
 // "h becomes adjuster, takes the median of the vote readings as adjustment and sends both"
@@ -105,7 +108,7 @@ pub fn propose(row: &mut Row) -> Sent
     ensures { λ s. ⌜ Acts propose (now (row .entry)) (now (row .exit)) s ⌝ }
 {
     if may_adjust(row) {
-        let own = row[9];
+        let own = row[at::OWN];
         let x = vote_median(row);
         return adjust(row, own, x);
     }

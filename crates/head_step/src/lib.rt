@@ -15,6 +15,7 @@ use frames::no_frame;
 use protocol::Input;
 use protocol::Row;
 use protocol::Sent;
+use protocol::at;
 ghost use mathlib.Core.Path.{_≡_};
 ghost use mathlib.Core.Bool.{cond};
 ghost use Prim.Native.Nat.{_+_, _%_, _^_};
@@ -40,7 +41,7 @@ pub fn effect(row: &mut Row, i: Input) -> Sent
     ensures { λ s. ⌜ (InputSized i
         → Acts (λ (r : HeadRecord). effect (withLast r (reading (i .reading))) (actionOf i)) (now (row .entry)) (now (row .exit)) s) ⌝ }
 {
-    row[0] = i.reading;
+    row[at::LAST] = i.reading;
     let a = i.action;
     match a {
         1 => start_sent(row),

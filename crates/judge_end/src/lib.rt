@@ -4,6 +4,8 @@ use head_open::has_mark;
 use protocol::Judged;
 use protocol::Row;
 use protocol::Setting;
+use protocol::at;
+use protocol::mark;
 use sheet_state::head_index;
 ghost use mathlib.Core.Path.{_≡_};
 ghost use mathlib.Core.Bool.{cond, _&&_};
@@ -45,7 +47,8 @@ pub fn premise_1(g: Setting) -> bool
 fn has_ended(m: u32) -> bool
     ensures { λ b. ⌜ b ≡ (hasMark m 8 && (hasMark m 16 && hasMark m 32)) ⌝ }
 {
-    has_mark(m, 8) && (has_mark(m, 16) && has_mark(m, 32))
+    has_mark(m, mark::VOTE_CLOSE)
+        && (has_mark(m, mark::ADJUST_TURN) && has_mark(m, mark::ADJUST_CLOSE))
 }
 
 // "4. Every correct head takes actions 6, 7 and 9"
@@ -54,7 +57,7 @@ pub fn premise_4(g: Setting, heads: &[Row; 16]) -> bool
 {
     let mut q: u8 = 0;
     while q < g.n {
-        if is_correct(g, q) & !has_ended(heads[head_index(q)][1]) {
+        if is_correct(g, q) & !has_ended(heads[head_index(q)][at::MARKS]) {
             return false;
         }
         q += 1;

@@ -5,6 +5,8 @@ use protocol::Entry;
 use protocol::Row;
 use protocol::Setting;
 use protocol::TIME_LIMIT;
+use protocol::at;
+use protocol::mark;
 use sheet_state::head_index;
 ghost use mathlib.Core.Path.{_≡_};
 ghost use mathlib.Core.Bool.{cond, _&&_};
@@ -84,7 +86,7 @@ pub fn start_delivered_breaks(
 {
     let p = head_index(e.sender);
     times[p * 16 + head_index(e.head)] = std::num::wrapping_add_u32(e.time.0, 1);
-    if has_mark(heads[p][1], 2) && is_correct(g, e.head) {
+    if has_mark(heads[p][at::MARKS], mark::CONFIRMED) && is_correct(g, e.head) {
         3
     } else {
         0

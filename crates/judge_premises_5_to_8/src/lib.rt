@@ -7,6 +7,8 @@ use judge_premise_3::start_reached;
 use protocol::Entry;
 use protocol::Row;
 use protocol::Setting;
+use protocol::at;
+use protocol::mark;
 use sheet_state::frame_index;
 use sheet_state::head_index;
 ghost use mathlib.Core.Path.{_≡_};
@@ -22,6 +24,12 @@ ghost use Rattle.protocol.specs.Premises.{delivery, closing, received, correctA
 ghost use Rattle.sheet_state.specs.Arrays.{eventAt, Stands};
 ghost use Rattle.judge_premise_3.specs.Starts.{startTimes};
 ghost use Rattle.judge_premises_5_to_8.specs.Closes.{phaseKind, receiverSets, frameReached, headReached, phaseReached, Found};
+
+// What was found so far has under these numbers, and the phase, whether a frame came late, and whether a correct head has closed
+// the phase; under a premise's number whether it is broken.
+const LATE: usize = 10;
+
+const CLOSED: usize = 12;
 
 // Each frame of head p under the first serials, as many as the count says, reached all other correct heads.
 fn frames_reached(g: Setting, p: u8, a: u8, count: u32, received: &[u16; 512]) -> bool
@@ -42,7 +50,7 @@ fn own_start_reached(g: Setting, p: u8, marks: u32, times: &[u32; 256]) -> bool
     ensures { λ b. ⌜ ((s : History) → now (times .entry) ≡ startTimes s → p < 16 → g .n ≤ 16
         → b ≡ (hasMark marks 1 ⇒ correctAll g (λ q. received 2 p 0 q s))) ⌝ }
 {
-    if has_mark(marks, 1) {
+    if has_mark(marks, mark::START_SENT) {
         return start_reached(g, times, p);
     }
     true
@@ -62,20 +70,20 @@ fn head_reached(
         → now (times .entry) ≡ startTimes s → isCorrect g p ≡ true → any (correctCloses g (phaseKind phase)) s ≡ false → b ≡ headReached g (phaseKind phase) s p) ⌝ }
 {
     let i = head_index(p);
-    let marks = heads[i][1];
+    let marks = heads[i][at::MARKS];
     if phase == 0 {
-        if !((heads[i][2] != 0) | has_mark(marks, 4)) {
+        if !((heads[i][at::CANDIDATE] != 0) | has_mark(marks, mark::VOTE_TURN)) {
             return false;
         }
         if !own_start_reached(g, p, marks, times) {
             return false;
         }
-        return frames_reached(g, p, 5, heads[i][3], received);
+        return frames_reached(g, p, 5, heads[i][at::VOTES_SENT], received);
     }
-    if !has_mark(marks, 16) {
+    if !has_mark(marks, mark::ADJUST_TURN) {
         return false;
     }
-    frames_reached(g, p, 8, heads[i][5], received)
+    frames_reached(g, p, 8, heads[i][at::ADJUSTS_SENT], received)
 }
 
 // Premise 5 or 7 at the first correct close of the phase.
@@ -120,13 +128,13 @@ pub fn close_breaks(
     if !is_correct(g, e.head) {
         return 0;
     }
-    if found[12 + phase] == 1 {
-        if found[10 + phase] == 1 {
+    if found[CLOSED + phase] == 1 {
+        if found[LATE + phase] == 1 {
             return 6 + 2 * phase;
         }
         return 0;
     }
-    found[12 + phase] = 1;
+    found[CLOSED + phase] = 1;
     if !phase_reached(g, phase, heads, received, times) {
         return 5 + 2 * phase;
     }
@@ -147,8 +155,8 @@ pub fn frame_breaks(
 {
     let j = frame_index(e.action, e.sender, e.serial);
     received[j] = with_head(received[j], e.head);
-    if is_correct(g, e.head) && found[12 + phase] == 1 {
-        10 + phase
+    if is_correct(g, e.head) && found[CLOSED + phase] == 1 {
+        LATE + phase
     } else {
         0
     }

@@ -9,6 +9,7 @@ use protocol::Judged;
 use protocol::Row;
 use protocol::Setting;
 use protocol::Verdict;
+use protocol::at;
 use sheet_entry::entry_verdict;
 use sheet_entry::take_entry;
 use sheet_words::entry_count;
@@ -111,7 +112,7 @@ pub fn number_heads(heads: &mut [Row; 16])
 {
     let mut q: usize = 0;
     while q < 16 {
-        heads[q][9] = q as u32;
+        heads[q][at::OWN] = q as u32;
         q += 1;
     }
 }

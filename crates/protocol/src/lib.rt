@@ -1,6 +1,9 @@
 // The types of the protocol: a head's record, what a head is asked and answers, a run sheet's entries, and the causes.
 // The definitions of specs/ speak about these types themselves, so a contract equates a function's result with a definition.
 
+pub mod at;
+pub mod mark;
+
 // 2²⁸: "Times are microseconds in 28 bits", so each is below this.
 pub const TIME_LIMIT: u32 = 268435456;
 

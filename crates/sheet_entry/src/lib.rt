@@ -8,6 +8,8 @@ use protocol::Input;
 use protocol::Row;
 use protocol::Sent;
 use protocol::Verdict;
+use protocol::at;
+use protocol::mark;
 use sheet_state::frame_index;
 use sheet_state::head_index;
 ghost use mathlib.Core.Path.{_≡_};
@@ -28,10 +30,10 @@ fn is_open(e: Entry, heads: &[Row; 16]) -> bool
     let a = e.action;
     let p = head_index(e.sender);
     match a {
-        2 => has_mark(heads[p][1], 1),
-        5 => ((e.serial as u32) < heads[p][3]) & (e.sender != e.head),
-        8 => ((e.serial as u32) < heads[p][5]) & (e.sender != e.head),
-        _ => !closed_by(a as u32, heads[head_index(e.head)][1]),
+        2 => has_mark(heads[p][at::MARKS], mark::START_SENT),
+        5 => ((e.serial as u32) < heads[p][at::VOTES_SENT]) & (e.sender != e.head),
+        8 => ((e.serial as u32) < heads[p][at::ADJUSTS_SENT]) & (e.sender != e.head),
+        _ => !closed_by(a as u32, heads[head_index(e.head)][at::MARKS]),
     }
 }
 
@@ -46,7 +48,7 @@ pub fn entry_verdict(e: Entry, fits: bool, time: u32, heads: &[Row; 16]) -> Verd
     if e.time.0 < time {
         return Verdict::Refused(Cause::TimeFell);
     }
-    if e.reading.0 < heads[head_index(e.head)][0] {
+    if e.reading.0 < heads[head_index(e.head)][at::LAST] {
         return Verdict::Refused(Cause::ReadingFell);
     }
     if is_open(e, heads) {

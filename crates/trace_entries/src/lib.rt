@@ -10,6 +10,7 @@ use protocol::Reading;
 use protocol::RealTime;
 use protocol::Row;
 use protocol::Verdict;
+use protocol::at;
 use sheet_entry::entry_verdict;
 use sheet_entry::take_entry;
 use sheet_state::head_index;
@@ -45,9 +46,9 @@ fn line_of(e: Entry, row: &Row) -> Line
     ensures { λ l. ⌜ IsLine e (now (row .entry)) l ⌝ }
 {
     let time = e.time;
-    let candidate = number_in(row[2]);
-    let adjuster = number_in(row[4]);
-    let adjustment = Reading(row[6]);
+    let candidate = number_in(row[at::CANDIDATE]);
+    let adjuster = number_in(row[at::ADJUSTER]);
+    let adjustment = Reading(row[at::ADJUSTMENT]);
     let x = result_numbers(row);
     Line {
         time,

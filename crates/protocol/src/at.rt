@@ -1,0 +1,33 @@
+// Where a head's row has what: the order of rowOf (specs/Row.antt).
+
+// The last reading.
+pub const LAST: usize = 0;
+
+pub const MARKS: usize = 1;
+
+// What may be none is 0 for none, else one more than itself: candidate, adjuster, and all that is kept by sender.
+pub const CANDIDATE: usize = 2;
+
+pub const VOTES_SENT: usize = 3;
+
+pub const ADJUSTER: usize = 4;
+
+pub const ADJUSTS_SENT: usize = 5;
+
+pub const ADJUSTMENT: usize = 6;
+
+// n, f, and the head's own number; six numbers behind it stand for nothing.
+pub const HEADS: usize = 7;
+
+pub const FAULTY: usize = 8;
+
+pub const OWN: usize = 9;
+
+// By sender: sender p's is p numbers on.
+pub const START_READINGS: usize = 16;
+
+pub const VOTE_READINGS: usize = 32;
+
+pub const VOTE_SERIALS: usize = 48;
+
+pub const ADJUST_SERIALS: usize = 64;
