@@ -1,5 +1,4 @@
 -- Laws that the proofs of this crate's functions cite.
-pub mod Fresh
 pub mod Loop
 pub mod Ready
 pub mod Where

@@ -1,15 +1,13 @@
 -- What one pass over a sheet's entries leaves.
 use mathlib.Core.Path.{_≡_}
-use mathlib.Core.List.{List, []}
+use mathlib.Core.List.{List}
 use Prim.Native.Nat.{ℕ}
 use mathlib.Core.Bool.{Bool}
-use lib.ListN.{getD, replicate}
+use lib.ListN.{getD}
 use Rattle.protocol.specs.declared.Setting.{Setting}
 use Rattle.protocol.specs.declared.Judged.{Judged}
 use Rattle.protocol.specs.Run.{History, Run, ran}
 use Rattle.protocol.specs.Words.{settingAt}
-use Rattle.protocol.specs.Record.{fresh}
-use Rattle.protocol.specs.Row.{rowOf}
 use Rattle.protocol.specs.Premises.{premise2, premises, firstBroken, judgeRun}
 use Rattle.sheet_state.specs.Arrays.{headRows, Stands}
 use Rattle.judge_premises_5_to_8.specs.Closes.{foundOf}
@@ -18,10 +16,6 @@ use Rattle.judge_premises_5_to_8.specs.Closes.{foundOf}
 pub record Passes (g : Setting) (run : Run) (j : Judged) (heads : List (List ℕ)) : Type 0 where
   pub judged-is : j ≡ judgeRun g run
   pub heads-are : (s : History) → run ≡ ran s → heads ≡ headRows g s
-
--- rows that are all head 0's fresh row become those of the heads before the first entry
-abbrev pub FreshBut : List (List ℕ) → List (List ℕ) → Type 0
-FreshBut before after = (g : Setting) → before ≡ replicate 16 (rowOf (fresh (g .n) (g .f) 0)) → after ≡ headRows g []
 
 -- the judge's answer after the last entry, from what was found
 abbrev pub JudgedAt : Setting → List (List ℕ) → Bool → List ℕ → Judged → Type 0

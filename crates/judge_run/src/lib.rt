@@ -1,5 +1,4 @@
 // One pass over a sheet's entries: the run of the heads, and what the premises say of it.
-use head_row::fresh_row;
 use judge_end::first_broken;
 use judge_end::premise_1;
 use judge_end::premise_4;
@@ -9,9 +8,9 @@ use protocol::Judged;
 use protocol::Row;
 use protocol::Setting;
 use protocol::Verdict;
-use protocol::at;
 use sheet_entry::entry_verdict;
 use sheet_entry::take_entry;
+use sheet_state::fresh_heads;
 use sheet_words::entry_count;
 use sheet_words::read_entry;
 use sheet_words::setting_at;
@@ -24,7 +23,7 @@ ghost use lib.ListN.{length, getD};
 ghost use Rattle.protocol.specs.Words.{settingAt, firstWordFits};
 ghost use Rattle.protocol.specs.Run.{runOf, runFirst};
 ghost use Rattle.sheet_state.specs.Arrays.{headRows};
-ghost use Rattle.judge_run.specs.Pass.{Passes, FreshBut, JudgedAt};
+ghost use Rattle.judge_run.specs.Pass.{Passes, JudgedAt};
 ghost use Rattle.judge_run.specs.Where.{TellsBroken, TellsWhere};
 
 // 2⁶²: above any gain and any loss.
@@ -106,17 +105,6 @@ pub fn run_entries(
     judged_of(g, heads, steady, &found)
 }
 
-// Fresh rows of head 0 become those of the sixteen heads.
-pub fn number_heads(heads: &mut [Row; 16])
-    ensures { λ _. ⌜ FreshBut (now (heads .entry)) (now (heads .exit)) ⌝ }
-{
-    let mut q: usize = 0;
-    while q < 16 {
-        heads[q][at::OWN] = q as u32;
-        q += 1;
-    }
-}
-
 // The run of a sheet's first k entries, or of all of them where it has fewer: causes 1 to 4, then entry by entry 6 to 9.
 pub fn run(sheet: &[u32], k: usize, heads: &mut [Row; 16]) -> Judged
     ensures { λ j. ⌜ Passes (settingAt (now (sheet .entry))) (runFirst (now (sheet .entry)) k) j (now (heads .exit)) ⌝ }
@@ -127,9 +115,7 @@ pub fn run(sheet: &[u32], k: usize, heads: &mut [Row; 16]) -> Judged
         Verdict::Accepted => {
             let g = setting_at(sheet);
             let all = entry_count(sheet);
-            let fresh = fresh_row(g.n as u32, g.f as u32, 0);
-            *heads = [fresh; 16];
-            number_heads(heads);
+            *heads = fresh_heads(g);
             let mut entries: usize = 0;
             if k < all {
                 run_entries(sheet, g, k, 0, heads, &mut entries)

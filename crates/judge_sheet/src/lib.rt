@@ -1,7 +1,5 @@
 // The replay of a run sheet and the judge of the eight premises, by one pass over its entries; and what holds of a sheet that
 // keeps them all.
-use head_row::fresh_row;
-use judge_run::number_heads;
 use judge_run::run_entries;
 use protocol::Cause;
 use protocol::Judged;
@@ -11,6 +9,7 @@ use protocol::Row;
 use protocol::Verdict;
 use sheet_results::WORDS_PER_HEAD;
 use sheet_results::write_words;
+use sheet_state::fresh_heads;
 use sheet_words::entry_count;
 use sheet_words::setting_at;
 use sheet_words::sheet_verdict;
@@ -55,9 +54,7 @@ pub fn replay_and_judge(sheet: &[u32], out: &mut [u32]) -> Report
         },
         Verdict::Accepted => {
             let g = setting_at(sheet);
-            let fresh = fresh_row(g.n as u32, g.f as u32, 0);
-            let mut heads = [fresh; 16];
-            number_heads(&mut heads);
+            let mut heads = fresh_heads(g);
             let mut entries: usize = 0;
             let judged = run_entries(sheet, g, entry_count(sheet), 0, &mut heads, &mut entries);
             let replayed = replay_of(judged, g.n, &heads, out);

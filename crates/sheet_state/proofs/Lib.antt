@@ -1,3 +1,4 @@
 -- Laws of indices, and of what a run keeps.
 pub mod Indices
 pub mod Standing
+mod Fresh

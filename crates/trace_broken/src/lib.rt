@@ -1,8 +1,7 @@
 // Where a premise was broken: the pass of replay and judge, up to the first entry at which the premise's test fails.
-use head_row::fresh_row;
-use judge_run::number_heads;
 use judge_run::run_entries;
 use protocol::Verdict;
+use sheet_state::fresh_heads;
 use sheet_words::entry_count;
 use sheet_words::setting_at;
 use sheet_words::sheet_verdict;
@@ -20,9 +19,7 @@ pub fn broken_at(sheet: &[u32], premise: u8) -> usize
         Verdict::Accepted => {
             let g = setting_at(sheet);
             let count = entry_count(sheet);
-            let fresh = fresh_row(g.n as u32, g.f as u32, 0);
-            let mut heads = [fresh; 16];
-            number_heads(&mut heads);
+            let mut heads = fresh_heads(g);
             let mut entries: usize = 0;
             run_entries(sheet, g, count, premise, &mut heads, &mut entries);
             entries

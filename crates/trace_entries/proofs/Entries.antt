@@ -12,8 +12,6 @@ use Rattle.protocol.specs.declared.Cause.{Cause}
 use Rattle.protocol.specs.declared.Verdict.the-variants.{Accepted, Refused}
 use Rattle.protocol.specs.Base.{table}
 use Rattle.protocol.specs.Words.{settingAt, entryCount, placeOf, entryAt}
-use Rattle.protocol.specs.Record.{fresh}
-use Rattle.protocol.specs.Row.{rowOf}
 use Rattle.protocol.specs.Causes.{sheetVerdict}
 use Rattle.protocol.specs.Run.{History, recordOf, frameSent, runOf, runFirst}
 use Rattle.protocol.proofs.Fits.{sheet-fits}
@@ -22,7 +20,6 @@ use Rattle.protocol.proofs.Ranges.{range-test, run-in-range}
 use Rattle.protocol.proofs.Runs.{goes-on, stops}
 use Rattle.sheet_state.specs.Arrays.{headRows, choicesOf, carriedOf, answerAt, eventAt, Stands, Carries}
 use Rattle.sheet_state.proofs.Standing.{entry-sized, heads-few, valid-history, next-taken, row-at}
-use Rattle.judge_run.specs.Pass.{FreshBut}
 use Rattle.trace_entries.specs.declared.Line.{Line}
 use Rattle.trace_entries.specs.declared.Traced.the-variants.{After, RefusedAt, Ended}
 use Rattle.trace_entries.specs.Trace.{lineOf, tracedAfter, traced}
@@ -51,15 +48,15 @@ nothing-sent : Carries [] (replicate 512 0) (replicate 512 0)
 unfolding choicesOf carriedOf frameSent
 nothing-sent = record { choices-are = sym (zeros 512 0); carried-are = sym (zeros 512 0) }
 
-pub first-follows : (ws : List ℕ) (heads : List (List ℕ)) (row : List ℕ) (g : Setting) → sheetVerdict ws ≡ Accepted → g ≡ settingAt ws
-    → row ≡ rowOf (fresh (g .n) (g .f) 0) → FreshBut (replicate 16 row) heads → Follows ws 0 heads (replicate 512 0) (replicate 512 0) 0
+pub first-follows : (ws : List ℕ) (heads : List (List ℕ)) (g : Setting) → sheetVerdict ws ≡ Accepted → g ≡ settingAt ws
+    → heads ≡ headRows g [] → Follows ws 0 heads (replicate 512 0) (replicate 512 0) 0
 unfolding runOf
-first-follows ws heads row g sheet g-is row-is numbered =
+first-follows ws heads g sheet g-is fresh =
     record {
       sheet = sheet;
       reached = omega arith;
       past = [];
-      stands = record { first-word = sheet-fits ws sheet .first-word; is-run = refl; heads-are = numbered g (ap (replicate 16) row-is) ∙ ap (λ (s : Setting). headRows s []) g-is };
+      stands = record { first-word = sheet-fits ws sheet .first-word; is-run = refl; heads-are = fresh ∙ ap (λ (s : Setting). headRows s []) g-is };
       carries = nothing-sent;
       time-is = refl;
     }

@@ -1,8 +1,6 @@
 // What the program trace shows of an entry: the entry, and where its head stands after it.
 use data_values::number_in;
 use head_result::result_numbers;
-use head_row::fresh_row;
-use judge_run::number_heads;
 use protocol::Cause;
 use protocol::Entry;
 use protocol::OptNumber;
@@ -13,6 +11,7 @@ use protocol::Verdict;
 use protocol::at;
 use sheet_entry::entry_verdict;
 use sheet_entry::take_entry;
+use sheet_state::fresh_heads;
 use sheet_state::head_index;
 use sheet_words::entry_count;
 use sheet_words::read_entry;
@@ -66,11 +65,7 @@ pub fn first_heads(sheet: &[u32]) -> [Row; 16]
     requires { ⌜ sheetVerdict (now sheet) ≡ Accepted ⌝ }
     ensures { λ heads. ⌜ Follows (now (sheet .entry)) 0 heads (replicate 512 0) (replicate 512 0) 0 ⌝ }
 {
-    let g = setting_at(sheet);
-    let fresh = fresh_row(g.n as u32, g.f as u32, 0);
-    let mut heads = [fresh; 16];
-    number_heads(&mut heads);
-    heads
+    fresh_heads(setting_at(sheet))
 }
 
 // Entry i of a sheet and its head after it, or its refusal, from what the entries before it left.

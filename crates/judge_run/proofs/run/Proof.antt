@@ -20,43 +20,34 @@ setting-at-requires c κs = has-two _ _ (c .before .before .sheet-verdict .ensur
 entry-count-requires : tie.Need-entry-count-requires
 entry-count-requires c κs = has-two _ _ (c .before .before .before .sheet-verdict .ensures) (c .before .enum-told .given .1)
 
-cast-fresh-row : tie.Need-cast-fresh-row
-cast-fresh-row c = search needs
-
-cast-fresh-row-2 : tie.Need-cast-fresh-row-2
-cast-fresh-row-2 c = search needs
-
-fresh-row-requires : tie.Need-fresh-row-requires
-fresh-row-requires c κs = search needs
-
-number-heads-requires : tie.Need-number-heads-requires
-number-heads-requires c κs = search needs
+fresh-heads-requires : tie.Need-fresh-heads-requires
+fresh-heads-requires c κs = search needs
 
 run-entries-requires : tie.Need-run-entries-requires
 run-entries-requires c κs =
-    let s = c .before .before .before .before .before .before .before .before .before .before in
-    let all = c .before .before .before .before .before .before .before .before .before .entry-count .ensures in
-    ready _ _ (s .before .before .before .sheet-verdict .ensures) (s .before .enum-told .given .1) _ (s .setting-at .ensures) _ (c .before .before .before .before .before .before .fresh-row .ensures) _ (c .before .before .before .number-heads .ensures) _ (omega (arith, all, c .before .before .if1 .taken))
+    let s = c .before .before .before .before .before in
+    let all = c .before .before .before .before .entry-count .ensures in
+    ready _ _ (s .before .before .before .sheet-verdict .ensures) (s .before .enum-told .given .1) _ (s .setting-at .ensures) _ (c .before .before .before .fresh-heads .ensures) _ (omega (arith, all, c .before .before .if1 .taken))
 
 run-entries-requires-2 : tie.Need-run-entries-requires-2
 run-entries-requires-2 c κs =
-    let s = c .before .before .before .before .before .before .before .before .before .before in
-    let all = c .before .before .before .before .before .before .before .before .before .entry-count .ensures in
-    ready _ _ (s .before .before .before .sheet-verdict .ensures) (s .before .enum-told .given .1) _ (s .setting-at .ensures) _ (c .before .before .before .before .before .before .fresh-row .ensures) _ (c .before .before .before .number-heads .ensures) _ (omega (arith, all))
+    let s = c .before .before .before .before .before in
+    let all = c .before .before .before .before .entry-count .ensures in
+    ready _ _ (s .before .before .before .sheet-verdict .ensures) (s .before .enum-told .given .1) _ (s .setting-at .ensures) _ (c .before .before .before .fresh-heads .ensures) _ (omega (arith, all))
 
 returns : tie.Need-returns
 returns c = run-turned-back _ _ (c .before .before .before .sheet-verdict .ensures) _ _ (c .before .v .given .1) _
 
 returns-2 : tie.Need-returns-2
 returns-2 c =
-    let s = c .before .before .before .before .before .before .before .before .before .before .before in
-    let all = c .before .before .before .before .before .before .before .before .before .before .entry-count .ensures in
+    let s = c .before .before .before .before .before .before in
+    let all = c .before .before .before .before .before .entry-count .ensures in
     run-passes _ _ (s .before .before .before .sheet-verdict .ensures) (s .before .enum-told .given .1) _ (s .setting-at .ensures) _ _ (omega (arith, all, c .before .before .before .if1 .taken)) _ _ (c .run-entries .ensures .0 refl)
 
 returns-3 : tie.Need-returns-3
 returns-3 c =
-    let s = c .before .before .before .before .before .before .before .before .before .before .before in
-    let all = c .before .before .before .before .before .before .before .before .before .before .entry-count .ensures in
+    let s = c .before .before .before .before .before .before in
+    let all = c .before .before .before .before .before .entry-count .ensures in
     run-passes _ _ (s .before .before .before .sheet-verdict .ensures) (s .before .enum-told .given .1) _ (s .setting-at .ensures) _ _ (omega (arith, all, c .before .before .before .if1 .left)) _ _ (c .run-entries2 .ensures .0 refl)
 
 pub run-spec : {M : Type 1} → statement M
@@ -68,10 +59,7 @@ run-spec =
     enum-told
     setting-at-requires
     entry-count-requires
-    cast-fresh-row
-    cast-fresh-row-2
-    fresh-row-requires
-    number-heads-requires
+    fresh-heads-requires
     run-entries-requires
     run-entries-requires-2
     returns

@@ -19,29 +19,22 @@ enum-told c = search needs
 setting-at-requires : tie.Need-setting-at-requires
 setting-at-requires c κs = has-two _ _ (c .before .before .sheet-verdict .ensures) (c .enum-told .given .1)
 
-cast-fresh-row : tie.Need-cast-fresh-row
-cast-fresh-row c = search needs
-
-cast-fresh-row-2 : tie.Need-cast-fresh-row-2
-cast-fresh-row-2 c = search needs
-
-fresh-row-requires : tie.Need-fresh-row-requires
-fresh-row-requires c κs = search needs
-
-number-heads-requires : tie.Need-number-heads-requires
-number-heads-requires c κs = search needs
+fresh-heads-requires : tie.Need-fresh-heads-requires
+fresh-heads-requires c κs = search needs
 
 entry-count-requires : tie.Need-entry-count-requires
-entry-count-requires c κs = has-two _ _ (c .before .before .before .before .before .before .before .before .sheet-verdict .ensures) (c .before .before .before .before .before .before .enum-told .given .1)
+entry-count-requires c κs = has-two _ _ (c .before .before .before .before .sheet-verdict .ensures) (c .before .before .enum-told .given .1)
 
 run-entries-requires : tie.Need-run-entries-requires
 run-entries-requires c κs =
-    let s = c .before .before .before .before .before .before .before .before in
+    let s = c .before .before .before .before in
     let all = c .before .before .entry-count .ensures in
-    ready _ _ (s .before .before .before .sheet-verdict .ensures) (s .before .enum-told .given .1) _ (s .setting-at .ensures) _ (c .before .before .before .before .before .fresh-row .ensures) _ (c .before .before .before .number-heads .ensures) _ (omega (arith, all))
+    ready _ _ (s .before .before .before .sheet-verdict .ensures) (s .before .enum-told .given .1) _ (s .setting-at .ensures) _ (c .before .before .before .fresh-heads .ensures) _ (omega (arith, all))
 
 replay-of-requires : tie.Need-replay-of-requires
-replay-of-requires c κs = let s = c .before .before .before .before .before .before .before .before .before .before .before in few-heads _ _ (s .before .before .before .sheet-verdict .ensures) (s .before .enum-told .given .1) _ (s .setting-at .ensures)
+replay-of-requires c κs =
+    let s = c .before .before .before .before .before .before .before in
+    few-heads _ _ (s .before .before .before .sheet-verdict .ensures) (s .before .enum-told .given .1) _ (s .setting-at .ensures)
 
 returns : tie.Need-returns
 returns c = reported _ _ _ _ (turned-back _ _ (c .before .before .before .sheet-verdict .ensures) _ _ (c .before .v .given .1))
@@ -51,7 +44,7 @@ same-length c = search needs
 
 returns-2 : tie.Need-returns-2
 returns-2 c =
-    let s = c .before .before .before .before .before .before .before .before .before .before .before .before .before .before in
+    let s = c .before .before .before .before .before .before .before .before .before .before in
     reported _ _ _ _ (whole-run _ _ (s .before .before .before .sheet-verdict .ensures) (s .before .enum-told .given .1) _ (s .setting-at .ensures) _ (c .before .before .before .before .before .before .before .before .entry-count .ensures) _ _ (c .before .before .before .before .before .run-entries .ensures .0 refl) _ _ _ (c .before .before .replay-of .ensures))
 
 pub replay-and-judge-spec : {M : Type 1} → statement M
@@ -62,10 +55,7 @@ replay-and-judge-spec =
     enum-known-v
     enum-told
     setting-at-requires
-    cast-fresh-row
-    cast-fresh-row-2
-    fresh-row-requires
-    number-heads-requires
+    fresh-heads-requires
     entry-count-requires
     run-entries-requires
     replay-of-requires

@@ -21,31 +21,22 @@ setting-at-requires c κs = has-two _ _ (c .before .before .sheet-verdict .ensur
 entry-count-requires : tie.Need-entry-count-requires
 entry-count-requires c κs = has-two _ _ (c .before .before .before .sheet-verdict .ensures) (c .before .enum-told2 .given .1)
 
-cast-fresh-row : tie.Need-cast-fresh-row
-cast-fresh-row c = search needs
-
-cast-fresh-row-2 : tie.Need-cast-fresh-row-2
-cast-fresh-row-2 c = search needs
-
-fresh-row-requires : tie.Need-fresh-row-requires
-fresh-row-requires c κs = search needs
-
-number-heads-requires : tie.Need-number-heads-requires
-number-heads-requires c κs = search needs
+fresh-heads-requires : tie.Need-fresh-heads-requires
+fresh-heads-requires c κs = search needs
 
 run-entries-requires : tie.Need-run-entries-requires
 run-entries-requires c κs =
-    let s = c .before .before .before .before .before .before .before .before in
-    let all = c .before .before .before .before .before .before .before .entry-count .ensures in
-    ready _ _ (s .before .before .before .sheet-verdict .ensures) (s .before .enum-told2 .given .1) _ (s .setting-at .ensures) _ (c .before .before .before .before .fresh-row .ensures) _ (c .before .before .number-heads .ensures) _ (omega (arith, all))
+    let s = c .before .before .before .before in
+    let all = c .before .before .before .entry-count .ensures in
+    ready _ _ (s .before .before .before .sheet-verdict .ensures) (s .before .enum-told2 .given .1) _ (s .setting-at .ensures) _ (c .before .before .fresh-heads .ensures) _ (omega (arith, all))
 
 returns : tie.Need-returns
 returns c = turned-back _ _ _ (c .before .before .sheet-verdict .ensures) _ (c .enum-told .given .1) _
 
 returns-2 : tie.Need-returns-2
 returns-2 c =
-    let s = c .before .before .before .before .before .before .before .before .before in
-    of-sheet _ _ _ (s .before .before .before .sheet-verdict .ensures) (s .before .enum-told2 .given .1) _ _ _ (s .setting-at .ensures) (c .before .before .before .before .before .before .before .before .entry-count .ensures) (c .run-entries .ensures .1)
+    let s = c .before .before .before .before .before in
+    of-sheet _ _ _ (s .before .before .before .sheet-verdict .ensures) (s .before .enum-told2 .given .1) _ _ _ (s .setting-at .ensures) (c .before .before .before .before .entry-count .ensures) (c .run-entries .ensures .1)
 
 pub broken-at-spec : {M : Type 1} → statement M
 broken-at-spec =
@@ -56,10 +47,7 @@ broken-at-spec =
     enum-told-2
     setting-at-requires
     entry-count-requires
-    cast-fresh-row
-    cast-fresh-row-2
-    fresh-row-requires
-    number-heads-requires
+    fresh-heads-requires
     run-entries-requires
     returns
     returns-2)
