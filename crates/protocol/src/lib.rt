@@ -56,8 +56,8 @@ pub struct HeadRecord {
     pub senders: [Sender; 16],
 }
 
-// A head's record as a row of numbers, in the memory that a board lends: specs/Row.antt says which stands for what, and
-// how many they are (rowLength). No other place of the code does.
+// A head's record as a row of numbers, in the memory that a board lends: rowOf (specs/Row.antt) says which stands for what, and
+// `at` names them. How many they are, rowLength there, the code says here alone.
 pub const ROW_LENGTH: usize = 80;
 
 pub type Row = [u32; ROW_LENGTH];

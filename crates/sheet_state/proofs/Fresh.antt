@@ -28,20 +28,21 @@ module _ (g : Setting) where
     pub sixteen : length heads ≡ 16
     pub each-is : (j : ℕ) → j < 16 → getD heads j [] ≡ cond (ltb j q) (freshOf j) (freshOf 0)
 
-  at-test : (j : ℕ) {a b : Bool} → a ≡ b → cond a (freshOf j) (freshOf 0) ≡ cond b (freshOf j) (freshOf 0)
-  at-test j e = ap (λ (b : Bool). cond b (freshOf j) (freshOf 0)) e
+  -- which of the two rows it is goes by the test alone
+  same-row : (j : ℕ) {a b : Bool} → a ≡ b → cond a (freshOf j) (freshOf 0) ≡ cond b (freshOf j) (freshOf 0)
+  same-row j e = ap (λ (b : Bool). cond b (freshOf j) (freshOf 0)) e
 
   pub none-numbered : (heads : List (List ℕ)) → heads ≡ replicate 16 (freshOf 0) → Numbered 0 heads
   none-numbered heads is =
       record {
         sixteen = ap length is;
         each-is = λ j lt. ap (λ (l : List (List ℕ)). getD l j []) is ∙ getD-replicate 16 j (freshOf 0) [] lt
-            ∙ at-test j (sym (le-ltb j 0 (omega arith)));
+            ∙ same-row j (sym (le-ltb j 0 (omega arith)));
       }
 
   pub one-numbered : (heads : List (List ℕ)) (q : ℕ) → q < 16 → Numbered q heads → Numbered (q + 1) (set heads q (set (getD heads q []) 9 q))
   one-numbered heads q lt was =
-      let here = was .each-is q lt ∙ at-test q (le-ltb q q (omega arith)) in
+      let here = was .each-is q lt ∙ same-row q (le-ltb q q (omega arith)) in
       record {
         sixteen = length-set heads q _ ∙ was .sixteen;
         each-is = fill-over freshOf (λ _. freshOf 0) heads 16 q _ [] (was .sixteen) lt
@@ -51,4 +52,4 @@ module _ (g : Setting) where
   pub all-numbered : (heads : List (List ℕ)) (q : ℕ) → 16 ≤ q → Numbered q heads → heads ≡ headRows g []
   unfolding recordOf
   all-numbered heads q le was =
-      is-table (λ p. rowOf (recordOf g [] p)) 16 [] heads (was .sixteen) (λ j lt. was .each-is j lt ∙ at-test j (lt-ltb j q (omega arith)))
+      is-table (λ p. rowOf (recordOf g [] p)) 16 [] heads (was .sixteen) (λ j lt. was .each-is j lt ∙ same-row j (lt-ltb j q (omega arith)))
