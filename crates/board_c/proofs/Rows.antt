@@ -20,9 +20,9 @@ use Rattle.protocol.specs.declared.Frame.the-variants.{NoFrame}
 use Rattle.protocol.specs.Record.{reading, readingOr0, fresh, recordInRange}
 use Rattle.protocol.specs.Step.{effect, withLast, actionOf, step, refused}
 use Rattle.protocol.specs.Run.{carriedReading}
-use Rattle.protocol.specs.Causes.{causeNumber}
+use Rattle.protocol.specs.Causes.{causeNumber, verdictNumber}
 use Rattle.protocol.specs.Row.{rowLength, rowOf, recordIn, rowFits, rowInRange, sentOf}
-use Rattle.protocol.specs.Board.{verdictNumber, freshVerdict, freshRow, rowStep, rowAfter, frameNumbers, rowVerdict, resultIf, correctionIf}
+use Rattle.protocol.specs.Board.{freshVerdict, freshRow, rowStep, rowAfter, frameNumbers, rowVerdict, resultIf, correctionIf}
 use Rattle.protocol.proofs.Tests.{and-right}
 use Rattle.protocol.proofs.Fits.{input-fits}
 use Rattle.protocol.proofs.Laws.{step-answers}

@@ -21,7 +21,8 @@ ghost use mathlib.Core.Path.{_≡_};
 ghost use mathlib.Core.List.{_∷_, []};
 ghost use Rattle.protocol.specs.Counter.{counterReading, countedNumbers};
 ghost use Rattle.protocol.specs.Row.{recordIn};
-ghost use Rattle.protocol.specs.Board.{verdictNumber, freshVerdict, freshRow, inputIn, rowStep, rowAfter, frameNumbers, rowVerdict, resultIf, correctionIf};
+ghost use Rattle.protocol.specs.Causes.{verdictNumber};
+ghost use Rattle.protocol.specs.Board.{freshVerdict, freshRow, inputIn, rowStep, rowAfter, frameNumbers, rowVerdict, resultIf, correctionIf};
 
 // Makes a fresh record of head own of n, of which at most f are faulty. A refusal leaves the memory as it was.
 #[no_mangle]

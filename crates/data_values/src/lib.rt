@@ -71,5 +71,6 @@ pub fn cause_number(c: Cause) -> u32
         Cause::ActionClosed => 9,
         Cause::BadRecord => 10,
         Cause::CounterTooFar => 11,
+        Cause::BadField => 12,
     }
 }

@@ -4,7 +4,7 @@
 ghost use mathlib.Core.Path.{_≡_};
 ghost use Prim.Native.Nat.{_^_};
 ghost use lib.Dec.{ltb};
-ghost use Rattle.protocol.specs.Words.{kindOf, isTime, settingOf, isCorrect, headsFit, firstWordFits, secondWordFits};
+ghost use Rattle.protocol.specs.Words.{kindOf, isTime, settingOf, isCorrect, headsFit, firstFieldsFit, firstWordFits, secondWordFits};
 ghost use Rattle.protocol.specs.Words.{entryOf, hasSerial, hasSender, zeroWhereUnused};
 use protocol::Entry;
 use protocol::Reading;
@@ -64,12 +64,19 @@ fn none_from(correct: u16, n: u8) -> bool
     if n < 16 { correct >> n == 0 } else { true }
 }
 
+// cause 3 of a first word's fields: n and f "against its rules, or a correct bit at n or above"
+pub fn first_fields_fit(n: u8, f: u8, correct: u16) -> bool
+    ensures { λ r. ⌜ r ≡ firstFieldsFit n f correct ⌝ }
+{
+    heads_fit(n, f) & none_from(correct, n)
+}
+
 // cause 3: "first word against its rules, or a correct bit at n or above"
 pub fn first_word_fits(a: u32) -> bool
     ensures { λ r. ⌜ r ≡ firstWordFits a ⌝ }
 {
     let g = setting_of(a, 0);
-    (kind_of(a) == 1) & (heads_fit(g.n, g.f) & none_from(g.correct, g.n))
+    (kind_of(a) == 1) & first_fields_fit(g.n, g.f, g.correct)
 }
 
 // cause 4: "second word not kind 2"

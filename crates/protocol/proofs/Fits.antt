@@ -1,5 +1,5 @@
 -- What a sheet's words say, and the rules that whatever passes causes 1 to 4 and 6 keeps, told in numbers.
--- Main results: `setting-of-fields`, `entry-of-fields`, `heads-in-word`, `not-accepted`, `sheet-fits`, `correct-heads-below-n`,
+-- Main results: `heads-in-word`, `not-accepted`, `sheet-fits`, `correct-heads-below-n`,
 -- `entry-fits`, `input-fits`.
 use mathlib.Core.Path.{_≡_, refl, ap}
 use mathlib.Core.Bool.{Bool, true, not, _&&_, _||_}
@@ -18,35 +18,6 @@ use Rattle.protocol.specs.Step.{inputFits}
 use Rattle.protocol.specs.Causes.{sheetVerdict}
 use Rattle.protocol.specs.Program.{bigEndian, bytesVerdict}
 use Rattle.protocol.proofs.Tests.{absurd-bool, cases, cond-elim, not-false, and-left, and-right, parts, or-left, or-right, or-cases}
-
--- "Words of a run sheet": the fields of a word are read back
-pub setting-of-fields : (n f c d t : ℕ) → n < 2 ^ 8 → f < 2 ^ 4 → c < 2 ^ 16 → d < 2 ^ 12 → t < 2 ^ 16
-    → settingOf (1 * 2 ^ 28 + n * 2 ^ 20 + f * 2 ^ 16 + c) (2 * 2 ^ 28 + d * 2 ^ 16 + t)
-    ≡ record { n = n; f = f; correct = c; drift = d; tightness = t }
-unfolding settingOf
-setting-of-fields n f c d t hn hf hc hd ht =
-    let a = 1 * 2 ^ 28 + n * 2 ^ 20 + f * 2 ^ 16 + c in
-    let b = 2 * 2 ^ 28 + d * 2 ^ 16 + t in
-    let pn : bits a 27 20 ≡ n = omega arith in
-    let pf : bits a 19 16 ≡ f = omega arith in
-    let pc : bits a 15 0 ≡ c = omega arith in
-    let pd : bits b 27 16 ≡ d = omega arith in
-    let pt : bits b 15 0 ≡ t = omega arith in
-    λ i. record { n = pn i; f = pf i; correct = pc i; drift = pd i; tightness = pt i }
-
-pub entry-of-fields : (t a x q p k : ℕ) → t < 2 ^ 28 → a < 2 ^ 28 → x < 2 ^ 4 → q < 2 ^ 4 → p < 2 ^ 4 → k < 2 ^ 4
-    → entryOf (3 * 2 ^ 28 + t) (4 * 2 ^ 28 + a) (5 * 2 ^ 28 + x * 2 ^ 24 + q * 2 ^ 20 + p * 2 ^ 16 + k * 2 ^ 12)
-    ≡ record { time = record { 0 = t }; reading = record { 0 = a }; head = q; action = x; sender = p; serial = k }
-unfolding entryOf
-entry-of-fields t a x q p k ht ha hx hq hp hk =
-    let w = 5 * 2 ^ 28 + x * 2 ^ 24 + q * 2 ^ 20 + p * 2 ^ 16 + k * 2 ^ 12 in
-    let pt : timeOf (3 * 2 ^ 28 + t) ≡ t = omega arith in
-    let pa : timeOf (4 * 2 ^ 28 + a) ≡ a = omega arith in
-    let px : bits w 27 24 ≡ x = omega arith in
-    let pq : bits w 23 20 ≡ q = omega arith in
-    let pp : bits w 19 16 ≡ p = omega arith in
-    let pk : bits w 15 12 ≡ k = omega arith in
-    λ i. record { time = record { 0 = pt i }; reading = record { 0 = pa i }; head = pq i; action = px i; sender = pp i; serial = pk i }
 
 -- "big-endian words": the byte of the highest bits comes first
 pub word-of-bytes : (w : ℕ) (l : List ℕ) → bigEndian (w / 2 ^ 24 ∷ w / 2 ^ 16 % 2 ^ 8 ∷ w / 2 ^ 8 % 2 ^ 8 ∷ w % 2 ^ 8 ∷ l) ≡ w ∷ bigEndian l

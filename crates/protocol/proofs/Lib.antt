@@ -7,6 +7,7 @@ pub mod Effects
 pub mod Laws
 pub mod Causes
 pub mod Fits
+pub mod Spelling
 pub mod Valid
 pub mod Medians
 pub mod Ranges

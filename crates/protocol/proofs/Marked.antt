@@ -1,4 +1,4 @@
--- M1 to M12: one computed test over the table, and one lemma.
+-- M1 to M12 and what document 02 adds: one computed test over the table, and one lemma.
 use mathlib.Core.Path.{_≡_, refl}
 use mathlib.Core.Bool.{Bool, true}
 use mathlib.Core.List.{[]}
@@ -16,7 +16,9 @@ use Rattle.protocol.specs.Results.{outcomeWord, adjustmentWord, startWor
 use Rattle.protocol.specs.Premises.{each, before, lastStart, premise1, premise2, startWithin, premise3, premise4, framesReached, votesReached, premise5, noneBetween, premise6, adjustsReached, premise7, premise8, firstBroken, judge}
 use Rattle.protocol.specs.Claim.{endingInWords}
 use Rattle.protocol.specs.Program.{decimal, signed, line, headLines, refusedLine, premisesLine, printSheet}
-use Rattle.protocol.specs.Marked.{Case, m1, lookAt, marked}
+use Rattle.protocol.specs.Spelling.{entryWords, sheetOf}
+use Rattle.protocol.specs.Recorder.{settingInWidth, entryInWidth, entryInRange, writeVerdict, writeSheet}
+use Rattle.protocol.specs.Marked.{Case, m1Numbers, m1, lookAt, marked}
 use Rattle.protocol.proofs.Tests.{sameList, same-list, all-at}
 
 abbrev passes : Case → Bool
@@ -30,10 +32,10 @@ unfolding settingOf firstWordFits entryOf entryFits fresh chosenStart outcome co
     vote adjust startsHeld mayLead lead voteReadings mayAdjust propose delivered effect isClosed takeAction actionOf counterReading sheetVerdict
     recordOf frameSent inputOf stepEntry andThen runOf runSheet outcomeWord adjustmentWord startWord wordsFrom resultWords replay
     each before lastStart premise1 premise2 startWithin premise3 premise4 framesReached votesReached premise5 noneBetween premise6 adjustsReached premise7 premise8 firstBroken judge
-    endingInWords decimal signed line headLines refusedLine premisesLine printSheet m1 lookAt marked
+    endingInWords decimal signed line headLines refusedLine premisesLine printSheet entryWords sheetOf settingInWidth entryInWidth entryInRange writeVerdict writeSheet m1Numbers m1 lookAt marked
 all-pass = refl
 
--- each marked case gives what document 01 says, M1 at index 0
-pub marked-case : (i : ℕ) → i < 12 → getD marked i nothing .found ≡ getD marked i nothing .expected
+-- each marked case gives what the documents say, M1 at index 0
+pub marked-case : (i : ℕ) → i < 13 → getD marked i nothing .found ≡ getD marked i nothing .expected
 unfolding marked
 marked-case i h = same-list (getD marked i nothing .found) (getD marked i nothing .expected) (all-at passes marked nothing all-pass i h)

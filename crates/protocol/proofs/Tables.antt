@@ -1,13 +1,13 @@
--- Tables of a function's values, and lists that hold them.
+-- Tables of a function's values, lists that hold them, and a buffer that is filled from its beginning on.
 use mathlib.Core.Path.{_≡_, refl, sym, _∙_, ap}
 use mathlib.Core.Bool.{Bool, false, cond}
-use mathlib.Core.List.{List}
-use Prim.Native.Nat.{ℕ, zero, suc, _+_, _<_}
+use mathlib.Core.List.{List, [], _∷_, _++_, append-assoc}
+use Prim.Native.Nat.{ℕ, zero, suc, _+_, _≤_, _<_}
 use mathlib.Core.Logic.{_≢_}
 use native.Mathlib.Nat.{not-suc-le-zero}
 use native.Mathlib.Omega.{arith}
-use lib.ListN.{length, getD, set, length-set}
-use lib.Seq.{ext-getD, getD-set-same, getD-set-other}
+use lib.ListN.{length, getD, set, drop, length-set}
+use lib.Seq.{ext-getD, getD-set-same, getD-set-other, drop-cons}
 use lib.Dec.{ltb, eqb}
 use borrow.Author.Count.{below-more}
 use borrow.Author.Tests.{eqb-true, eqb-false, ltb-true, ltb-false, lt-ltb, le-ltb}
@@ -68,3 +68,40 @@ module _ {A : Type 0} where
       not-i z = cases (ltb j i)
           (λ t. let below = ltb-true j i t in t ∙ sym (lt-ltb j (i + 1) (omega arith)))
           (λ t. let above = ltb-false j i t in t ∙ sym (le-ltb j (i + 1) (omega (arith, z))))
+
+  -- one value more at the end
+  table-more : (f : ℕ → A) (i k : ℕ) → table f i (suc k) ≡ table f i k ++ (f (i + k) ∷ [])
+  table-more f i zero = ap (λ (j : ℕ). f j ∷ []) (omega arith)
+  table-more f i (suc k) = ap (λ (l : List A). f i ∷ l) (table-more f (suc i) k ∙ ap (λ (j : ℕ). table f (suc i) k ++ (f j ∷ [])) (omega arith))
+
+  pub table-last : (f : ℕ → A) (k : ℕ) → table f 0 (k + 1) ≡ table f 0 k ++ (f k ∷ [])
+  table-last f k =
+      let next : k + 1 ≡ suc k = omega arith in
+      let same : 0 + k ≡ k = omega arith in
+      ap (table f 0) next ∙ table-more f 0 k ∙ ap (λ (j : ℕ). table f 0 k ++ (f j ∷ [])) same
+
+  -- three elements at an index, and what is behind them
+  pub drop-three : (l : List A) (j k : ℕ) (d : A) → j + 3 ≡ k → k ≤ length l → drop j l ≡ getD l j d ∷ getD l (j + 1) d ∷ getD l (j + 2) d ∷ drop k l
+  drop-three l j k d e h =
+      let one : j + 1 ≡ suc j = omega arith in
+      let two : j + 2 ≡ suc (suc j) = omega arith in
+      let three : suc (suc (suc j)) ≡ k = omega arith in
+      rw (one, two, drop-cons l j d (omega arith), drop-cons l (suc j) d (omega arith), drop-cons l (suc (suc j)) d (omega arith), three) refl
+
+  -- three stores, one after the other, behind a front
+  set-three : (p : List A) (x y z : A) (l : List A) (a b c : A) (n : ℕ) → length p ≡ n
+      → set (set (set (p ++ x ∷ y ∷ z ∷ l) n a) (n + 1) b) (n + 2) c ≡ p ++ a ∷ b ∷ c ∷ l
+  set-three [] x y z l a b c n e = rw (← e) refl
+  set-three (u ∷ p) x y z l a b c n e =
+      let m = length p in
+      let e1 : suc m + 1 ≡ suc (m + 1) = omega arith in
+      let e2 : suc m + 2 ≡ suc (m + 2) = omega arith in
+      rw (← e, e1, e2) (ap (λ (t : List A). u ∷ t) (set-three p x y z l a b c m refl))
+
+  -- three elements more behind those that have been written; later ones are kept
+  pub three-more : (front before out : List A) (n m : ℕ) (a b c d : A) → length front ≡ n → n + 3 ≡ m → m ≤ length before
+      → out ≡ front ++ drop n before → set (set (set out n a) (n + 1) b) (n + 2) c ≡ (front ++ a ∷ b ∷ c ∷ []) ++ drop m before
+  three-more front before out n m a b c d long e room was =
+      let split = ap (λ (l : List A). front ++ l) (drop-three before n m d e room) in
+      let stored = set-three front (getD before n d) (getD before (n + 1) d) (getD before (n + 2) d) (drop m before) a b c n long in
+      rw (was, split, stored, append-assoc) refl

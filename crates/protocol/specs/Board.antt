@@ -10,13 +10,7 @@ use Rattle.protocol.specs.Words.{headsFit}
 use Rattle.protocol.specs.Record.{isReading, readingOr0, numberOr0, fresh, chosenStart, outcome, correction, markNumber}
 use Rattle.protocol.specs.Step.{refused, step}
 use Rattle.protocol.specs.Row.{rowOf, recordIn, rowFits, rowInRange}
-use Rattle.protocol.specs.Causes.{causeNumber}
 use Rattle.protocol.specs.Results.{ifAdopted}
-
--- 0, or the cause's number
-abbrev pub verdictNumber : Verdict → ℕ
-verdictNumber Accepted = 0
-verdictNumber (Refused c) = causeNumber c
 
 -- the row that is left: a refusal leaves it as it was
 abbrev pub rowIf : Verdict → HeadRecord → List ℕ → List ℕ

@@ -1,7 +1,8 @@
--- Document 01 in definitions, in its order. Base and Types serve all the others.
+-- Document 01 in definitions, in its order; from document 02, Recorder. Base and Types serve all the others.
 pub mod Base
 pub mod Types
 pub mod Words
+pub mod Spelling
 pub mod Record
 pub mod Median
 pub mod Step
@@ -14,4 +15,5 @@ pub mod Premises
 pub mod Claim
 pub mod Program
 pub mod Board
+pub mod Recorder
 pub mod Marked

@@ -1,35 +1,43 @@
--- Document 01, "The bench sheet, and its neighbours": the cases marked M, as entries of one table.
+-- Document 01, "The bench sheet, and its neighbours": the cases marked M, as entries of one table, with what document 02 adds to it.
 use mathlib.Core.List.{List, [], _∷_, _++_}
-use Prim.Native.Nat.{ℕ, _+_, _*_, _^_}
+use Prim.Native.Nat.{ℕ}
 use lib.ListN.{replicate}
 use Rattle.protocol.specs.Types.{Setting, Entry}
 use Rattle.protocol.specs.Words.{settingAt, entryAt}
+use Rattle.protocol.specs.Spelling.{entryWords}
 use Rattle.protocol.specs.Record.{correctedClock}
 use Rattle.protocol.specs.Median.{median}
 use Rattle.protocol.specs.Counter.{counterReading, countedNumbers}
+use Rattle.protocol.specs.Causes.{verdictNumber}
 use Rattle.protocol.specs.Run.{Run, stopped, ran, recordOf, runSheet}
 use Rattle.protocol.specs.Results.{Replay, replay, replayedNumbers}
 use Rattle.protocol.specs.Premises.{judge, judgedNumbers}
 use Rattle.protocol.specs.Program.{signed, printSheet}
+use Rattle.protocol.specs.Recorder.{settingFrom, entriesIn, Written, writeSheet}
 
--- the three words of an entry: "real time, reading, head, action, sender, serial"
-abbrev pub entry : ℕ → ℕ → ℕ → ℕ → ℕ → ℕ → List ℕ
-entry t a q x p k = (3 * 2 ^ 28 + t) ∷ (4 * 2 ^ 28 + a) ∷ (5 * 2 ^ 28 + x * 2 ^ 24 + q * 2 ^ 20 + p * 2 ^ 16 + k * 2 ^ 12) ∷ []
+-- M1's entries "as real time, reading, head, action, sender, serial"
+unfoldable pub m1Numbers : List ℕ
+m1Numbers =
+    950 ∷ 1000 ∷ 1 ∷ 1 ∷ 0 ∷ 0 ∷ 1000 ∷ 1000 ∷ 0 ∷ 1 ∷ 0 ∷ 0 ∷ 1100 ∷ 1100 ∷ 0 ∷ 2 ∷ 1 ∷ 0
+    ∷ 1104 ∷ 1154 ∷ 1 ∷ 2 ∷ 1 ∷ 0 ∷ 1110 ∷ 1160 ∷ 1 ∷ 3 ∷ 0 ∷ 0 ∷ 1260 ∷ 1260 ∷ 0 ∷ 2 ∷ 0 ∷ 0
+    ∷ 1263 ∷ 1313 ∷ 1 ∷ 2 ∷ 0 ∷ 0 ∷ 1270 ∷ 1270 ∷ 0 ∷ 3 ∷ 0 ∷ 0 ∷ 1300 ∷ 1300 ∷ 0 ∷ 4 ∷ 0 ∷ 0
+    ∷ 1460 ∷ 1510 ∷ 1 ∷ 5 ∷ 0 ∷ 0 ∷ 1620 ∷ 1620 ∷ 0 ∷ 5 ∷ 1 ∷ 0 ∷ 2000 ∷ 2000 ∷ 0 ∷ 6 ∷ 0 ∷ 0
+    ∷ 2000 ∷ 2050 ∷ 1 ∷ 6 ∷ 0 ∷ 0 ∷ 2100 ∷ 2100 ∷ 0 ∷ 7 ∷ 0 ∷ 0 ∷ 2260 ∷ 2310 ∷ 1 ∷ 8 ∷ 0 ∷ 0
+    ∷ 2300 ∷ 2350 ∷ 1 ∷ 7 ∷ 0 ∷ 0 ∷ 2420 ∷ 2420 ∷ 0 ∷ 8 ∷ 1 ∷ 0 ∷ 3000 ∷ 3000 ∷ 0 ∷ 9 ∷ 0 ∷ 0
+    ∷ 3000 ∷ 3050 ∷ 1 ∷ 9 ∷ 0 ∷ 0 ∷ 4000 ∷ 4000 ∷ 0 ∷ 0 ∷ 0 ∷ 0 ∷ 4000 ∷ 4050 ∷ 1 ∷ 0 ∷ 0 ∷ 0
+    ∷ []
 
 -- M1, with the second word as a parameter
 unfoldable pub m1 : ℕ → List ℕ
-m1 second =
-    (0x10200003 ∷ second ∷ [])
-    ++ entry 950 1000 1 1 0 0 ++ entry 1000 1000 0 1 0 0 ++ entry 1100 1100 0 2 1 0 ++ entry 1104 1154 1 2 1 0
-    ++ entry 1110 1160 1 3 0 0 ++ entry 1260 1260 0 2 0 0 ++ entry 1263 1313 1 2 0 0 ++ entry 1270 1270 0 3 0 0
-    ++ entry 1300 1300 0 4 0 0 ++ entry 1460 1510 1 5 0 0 ++ entry 1620 1620 0 5 1 0 ++ entry 2000 2000 0 6 0 0
-    ++ entry 2000 2050 1 6 0 0 ++ entry 2100 2100 0 7 0 0 ++ entry 2260 2310 1 8 0 0 ++ entry 2300 2350 1 7 0 0
-    ++ entry 2420 2420 0 8 1 0 ++ entry 3000 3000 0 9 0 0 ++ entry 3000 3050 1 9 0 0 ++ entry 4000 4000 0 0 0 0
-    ++ entry 4000 4050 1 0 0 0
+m1 second = 0x10200003 ∷ second ∷ entryWords (entriesIn m1Numbers)
 
 -- answer and buffer of a replay, as numbers
 abbrev pub replayed : Replay → List ℕ
 replayed x = replayedNumbers (x .answer) ++ x .buffer
+
+-- answer and buffer of the writer, as numbers
+abbrev pub written : Written → List ℕ
+written x = verdictNumber (x .verdict) ∷ x .buffer
 
 -- what the look of entry i shows, in decimal
 abbrev pub clockAfter : Setting → Entry → Run → List ℕ
@@ -50,7 +58,7 @@ m1Lines =
     ∷ 49 ∷ 32 ∷ 50 ∷ 32 ∷ 48 ∷ 32 ∷ 48 ∷ 32 ∷ 49 ∷ 50 ∷ 54 ∷ 48 ∷ 32 ∷ 49 ∷ 51 ∷ 49 ∷ 51 ∷ 32 ∷ 45 ∷ 53 ∷ 51 ∷ 10
     ∷ 112 ∷ 114 ∷ 101 ∷ 109 ∷ 105 ∷ 115 ∷ 101 ∷ 115 ∷ 32 ∷ 48 ∷ 10 ∷ []
 
--- what the definitions give, and what document 01 says. An answer's numbers are its cause, its place and, of the judge,
+-- what the definitions give, and what the documents say. An answer's numbers are its cause, its place and, of the judge,
 -- the premise, of a counter the reading; 0 for none
 pub record Case : Type 0 where
   pub found : List ℕ
@@ -83,4 +91,7 @@ marked =
     (0 ∷ 0 ∷ 0x60000000 ∷ 0x70000000 ∷ 0x80000000 ∷ 0x60100000 ∷ 0x70000000 ∷ 0x80000000 ∷ 0 ∷ 0 ∷ 4 ∷ [])
     -- "M12: a buffer of 5 words for M1 is cause 5"
     ∷ gives (replayed (replay (m1 0x2064000A) (replicate 5 1))) (5 ∷ 0 ∷ 1 ∷ 1 ∷ 1 ∷ 1 ∷ 1 ∷ [])
+    -- document 02, No. 1: M1 written from its fields, n = 2, f = 0, heads 0 and 1 correct, 100 parts per million, 10 microseconds,
+    -- into a buffer of one word more, which is kept; and M1's own words
+    ∷ gives (written (writeSheet (settingFrom 2 0 3 100 10) m1Numbers (replicate 66 1))) (0 ∷ m1 0x2064000A ++ (1 ∷ []))
     ∷ []

@@ -5,6 +5,7 @@ use Prim.Native.Nat.{ℕ, suc, _+_, _-_, _*_, _/_, _%_, _^_}
 use lib.Dec.{ltb, leb, eqb}
 use lib.ListN.{length, getD}
 use Rattle.protocol.specs.Types.{Setting, Entry}
+use Rattle.protocol.specs.Base.{table}
 
 -- "bits HIGH–LOW" of a word; "Bit 31 is the highest; the top four bits are the kind"
 abbrev pub bits : ℕ → ℕ → ℕ → ℕ
@@ -34,9 +35,12 @@ isCorrect g q = eqb (g .correct / 2 ^ q % 2) 1
 abbrev pub headsFit : ℕ → ℕ → Bool
 headsFit n f = leb 2 n && (leb n 16 && leb (2 * f + 1) n)
 
--- cause 3: "first word against its rules, or a correct bit at n or above"
+-- cause 3: "first word against its rules, or a correct bit at n or above"; beside the kind these rules concern n, f and the correct bits
+abbrev pub firstFieldsFit : ℕ → ℕ → ℕ → Bool
+firstFieldsFit n f correct = headsFit n f && ltb correct (2 ^ n)
+
 unfoldable pub firstWordFits : ℕ → Bool
-firstWordFits a = eqb (kindOf a) 1 && (headsFit (bits a 27 20) (bits a 19 16) && ltb (bits a 15 0) (2 ^ bits a 27 20))
+firstWordFits a = eqb (kindOf a) 1 && firstFieldsFit (bits a 27 20) (bits a 19 16) (bits a 15 0)
 
 -- cause 4: "second word not kind 2"
 abbrev pub secondWordFits : ℕ → Bool
@@ -94,3 +98,7 @@ entryAt ws i = entryOf (getD ws (placeOf i) 0) (getD ws (placeOf i + 1) 0) (getD
 
 abbrev pub entryFitsAt : List ℕ → ℕ → Bool
 entryFitsAt ws i = entryFits (settingAt ws .n) (getD ws (placeOf i) 0) (getD ws (placeOf i + 1) 0) (getD ws (placeOf i + 2) 0)
+
+-- the entries, in order
+abbrev pub entriesAt : List ℕ → List Entry
+entriesAt ws = table (entryAt ws) 0 (entryCount ws)

@@ -93,7 +93,7 @@ pub struct Sent {
     pub carried: u32,
 }
 
-// The causes to turn back a sheet, an action or a counter, in the order of their numbers, 1 to 11.
+// The causes to turn back a sheet, an action or a counter, in the order of their numbers, 1 to 11; then those of document 02.
 pub enum Cause {
     TooManyWords,
     BadLength,
@@ -106,6 +106,7 @@ pub enum Cause {
     ActionClosed,
     BadRecord,
     CounterTooFar,
+    BadField,
 }
 
 // Whether an action is taken.

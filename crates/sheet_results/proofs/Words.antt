@@ -1,12 +1,11 @@
 -- A head's three result words, and one head's words more in the buffer.
 -- Main results: `outcome-is`, `adjustment-is`, `start-is`; `next-head`.
-use mathlib.Core.Path.{_≡_, refl, _∙_, ap}
-use mathlib.Core.List.{List, [], _∷_, _++_, append-assoc}
+use mathlib.Core.Path.{_≡_, refl, sym, _∙_, ap}
+use mathlib.Core.List.{List, [], _∷_, _++_}
 use Prim.Native.Nat.{ℕ, zero, suc, _+_, _*_, _%_, _^_, _≤_, _<_}
 use native.Mathlib.Numerals.{add-one}
 use native.Mathlib.Omega.{arith}
 use lib.ListN.{length, getD, set, drop}
-use lib.Seq.{drop-cons}
 use lib.Dec.{eqb, lit<}
 use Rattle.protocol.specs.declared.HeadRecord.{HeadRecord}
 use Rattle.protocol.specs.Record.{votes, adjusts, numberOr0, readingOr0, chosenStart, outcome}
@@ -14,7 +13,7 @@ use Rattle.protocol.specs.Row.{rowOf}
 use Rattle.protocol.specs.Board.{resultNumbers}
 use Rattle.protocol.specs.Results.{ifAdopted, outcomeWord, adjustmentWord, startWord, headWords, wordsPerHead, wordsFrom}
 use Rattle.protocol.proofs.Tests.{cond-elim}
-use Rattle.protocol.proofs.Tables.{table-at}
+use Rattle.protocol.proofs.Tables.{table-at, three-more}
 use Rattle.protocol.proofs.Ranges as Ranges
 use Rattle.protocol.proofs.Ranges.{in-range}
 use Rattle.protocol.proofs.ResultWords.{length-words, outcome-below, number-below, start-below}
@@ -75,29 +74,13 @@ unfolding wordsFrom
 words-more f q zero = ap (λ (p : ℕ). headWords p (f p)) (omega arith)
 words-more f q (suc k) = ap (λ (l : List ℕ). headWords q (f q) ++ l) (words-more f (suc q) k ∙ ap (λ (p : ℕ). wordsFrom f (suc q) k ++ headWords p (f p)) (omega arith))
 
--- three stores, one after the other, behind a front
-set-three : (p : List ℕ) (x y z : ℕ) (l : List ℕ) (a b c n : ℕ) → length p ≡ n → set (set (set (p ++ x ∷ y ∷ z ∷ l) n a) (n + 1) b) (n + 2) c ≡ p ++ a ∷ b ∷ c ∷ l
-set-three [] x y z l a b c n e = rw (← e) refl
-set-three (u ∷ p) x y z l a b c n e =
-    let m = length p in
-    let e1 : suc m + 1 ≡ suc (m + 1) = omega arith in
-    let e2 : suc m + 2 ≡ suc (m + 2) = omega arith in
-    rw (← e, e1, e2) (ap (λ (t : List ℕ). u ∷ t) (set-three p x y z l a b c m refl))
-
-drop-three : (l : List ℕ) (j k : ℕ) → j + 3 ≡ k → k ≤ length l → drop j l ≡ getD l j 0 ∷ getD l (suc j) 0 ∷ getD l (suc (suc j)) 0 ∷ drop k l
-drop-three l j k e h =
-    let last : suc (suc (suc j)) ≡ k = omega arith in
-    rw (drop-cons l j 0 (omega arith), drop-cons l (suc j) 0 (omega arith), drop-cons l (suc (suc j)) 0 (omega arith), last) refl
-
 next-words : (f : ℕ → HeadRecord) (before out : List ℕ) (q a b c : ℕ) → 3 * q + 3 ≤ length before → out ≡ wordsFrom f 0 q ++ drop (3 * q) before
     → (a ≡ outcomeWord q (f q)) × (b ≡ adjustmentWord (f q)) × (c ≡ startWord (f q))
     → set (set (set out (3 * q) a) (3 * q + 1) b) (3 * q + 2) c ≡ wordsFrom f 0 (q + 1) ++ drop (3 * (q + 1)) before
 next-words f before out q a b c h was w =
-    let p = wordsFrom f 0 q in
-    let split = ap (λ (l : List ℕ). p ++ l) (drop-three before (3 * q) (3 * (q + 1)) (omega arith) (omega arith)) in
-    let stored = set-three p (getD before (3 * q) 0) (getD before (suc (3 * q)) 0) (getD before (suc (suc (3 * q))) 0) (drop (3 * (q + 1)) before) a b c (3 * q) (length-words f 0 q) in
-    let more : wordsFrom f 0 (q + 1) ≡ p ++ (a ∷ b ∷ c ∷ []) = let same : 0 + q ≡ q = omega arith in rw (add-one, words-more f 0 q, same, w .0, w .1, w .2) refl in
-    rw (was, split, stored, more, append-assoc) refl
+    let stored = three-more (wordsFrom f 0 q) before out (3 * q) (3 * (q + 1)) a b c 0 (length-words f 0 q) (omega arith) (omega arith) was in
+    let more : wordsFrom f 0 (q + 1) ≡ wordsFrom f 0 q ++ (a ∷ b ∷ c ∷ []) = let same : 0 + q ≡ q = omega arith in rw (add-one, words-more f 0 q, same, w .0, w .1, w .2) refl in
+    stored ∙ ap (λ (l : List ℕ). l ++ drop (3 * (q + 1)) before) (sym more)
 
 pub next-head : (heads : List (List ℕ)) (n q : ℕ) (before out : List ℕ) (w : HeadWords) → q < n → n ≤ 16 → wordsPerHead * n ≤ length before
     → Writes q heads before out → AreWords q (getD heads q []) w

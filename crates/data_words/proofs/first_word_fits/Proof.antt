@@ -10,17 +10,14 @@ setting-of-requires c κs = search needs
 kind-of-requires : tie.Need-kind-of-requires
 kind-of-requires c κs = search needs
 
-heads-fit-requires : tie.Need-heads-fit-requires
-heads-fit-requires c κs = search needs
-
-none-from-requires : tie.Need-none-from-requires
-none-from-requires c κs = search needs
+first-fields-fit-requires : tie.Need-first-fields-fit-requires
+first-fields-fit-requires c κs = search needs
 
 returns : tie.Need-returns
 unfolding firstWordFits settingOf
-returns c = simp (c .none-from .ensures, c .before .heads-fit .ensures, c .before .before .kind-of .ensures, c .before .before .before .setting-of .ensures)
+returns c = simp (c .first-fields-fit .ensures, c .before .kind-of .ensures, c .before .before .setting-of .ensures)
 
 pub first-word-fits-spec : {M : Type 1} → statement M
 first-word-fits-spec =
     tie.close
-    (tie.spec setting-of-requires kind-of-requires heads-fit-requires none-from-requires returns)
+    (tie.spec setting-of-requires kind-of-requires first-fields-fit-requires returns)

@@ -1,0 +1,106 @@
+// A run sheet written from a recorder's numbers into a lent buffer: document 02, No. 1.
+use protocol::Verdict;
+use sheet_numbers::NUMBERS_PER_ENTRY;
+use sheet_numbers::write_verdict;
+ghost use mathlib.Core.Path.{_≡_};
+ghost use mathlib.Core.Bool.{true};
+ghost use Prim.Native.Nat.{_+_, _*_, _^_, _≤_, _<_};
+ghost use lib.ListN.{length};
+ghost use Rattle.protocol.specs.Spelling.{actionWord};
+ghost use Rattle.protocol.specs.Recorder.{settingFrom, numbersPerEntry, entryFrom, entryIn, countIn, settingInWidth, entryInWidth, writeSheet, Recorded};
+ghost use Rattle.sheet_writer.specs.Buffer.{settingIn, AreWords, AreWritable, entriesBehind};
+
+// 1 × 2²⁸ to 5 × 2²⁸: a word of each kind less what stands below the kind
+const KIND_1: u32 = 268435456;
+
+const KIND_2: u32 = 536870912;
+
+const KIND_3: u32 = 805306368;
+
+const KIND_4: u32 = 1073741824;
+
+const KIND_5: u32 = 1342177280;
+
+// An entry's three words: of kind 3, 4 and 5.
+struct EntryWords {
+    time: u32,
+    reading: u32,
+    action: u32,
+}
+
+// "First word, kind 1: bits 27–20 n (heads, 2..16), 19–16 f, 15–0 one bit per correct head"
+// "Second word, kind 2: bits 27–16 drift in parts per million, 15–0 tightness in microseconds"
+fn write_setting(n: u32, f: u32, correct: u32, drift: u32, tightness: u32, out: &mut [u32])
+    requires { ⌜ (settingInWidth (settingFrom n f correct drift tightness) ≡ true) × (2 ≤ length (now out)) ⌝ }
+    ensures { λ _. ⌜ now (out .exit) ≡ settingIn (now (out .entry)) (settingFrom n f correct drift tightness) ⌝ }
+{
+    out[0] = KIND_1 + n * 1048576 + f * 65536 + correct;
+    out[1] = KIND_2 + drift * 65536 + tightness;
+}
+
+// "kind 5 with bits 27–24 action, 23–20 head, 19–16 sender, 15–12 serial, 11–0 zero"
+fn action_word(head: u32, action: u32, sender: u32, serial: u32) -> u32
+    requires { ⌜ (head < 2 ^ 4) × (action < 2 ^ 4) × (sender < 2 ^ 4) × (serial < 2 ^ 4) ⌝ }
+    ensures { λ w. ⌜ w ≡ actionWord (entryFrom 0 0 head action sender serial) ⌝ }
+{
+    KIND_5 + action * 16777216 + head * 1048576 + sender * 65536 + serial * 4096
+}
+
+// "Each entry, three words: kind 3 with the real time, kind 4 with the head's reading (of the clock in use)", and that of kind 5
+fn entry_words(numbers: &[u32], i: usize) -> EntryWords
+    requires { ⌜ (i < 4096) × (numbersPerEntry * i + 5 < length (now numbers)) × (entryInWidth (entryIn (now numbers) i) ≡ true) ⌝ }
+    ensures { λ w. ⌜ AreWords (entryIn (now (numbers .entry)) i) w ⌝ }
+{
+    let at = NUMBERS_PER_ENTRY * i;
+    let head = numbers[at + 2];
+    let action = numbers[at + 3];
+    let sender = numbers[at + 4];
+    let serial = numbers[at + 5];
+    EntryWords {
+        time: KIND_3 + numbers[at],
+        reading: KIND_4 + numbers[at + 1],
+        action: action_word(head, action, sender, serial),
+    }
+}
+
+// The words of all entries, behind the sheet's first two; words past the last one are kept.
+fn write_entries(numbers: &[u32], out: &mut [u32])
+    requires { ⌜ AreWritable (now numbers) (length (now out)) ⌝ }
+    ensures { λ _. ⌜ now (out .exit) ≡ entriesBehind (now (out .entry)) (now (numbers .entry)) (countIn (now (numbers .entry))) ⌝ }
+{
+    let count = numbers.len() / NUMBERS_PER_ENTRY;
+    let mut i: usize = 0;
+    while i < count {
+        let w = entry_words(numbers, i);
+        let at = 2 + 3 * i;
+        out[at] = w.time;
+        out[at + 1] = w.reading;
+        out[at + 2] = w.action;
+        i += 1;
+    }
+}
+
+// Writes the run sheet of a setting and of entries, six numbers each, or refuses and leaves the buffer as it was.
+pub fn write_sheet(
+    n: u32,
+    f: u32,
+    correct: u32,
+    drift: u32,
+    tightness: u32,
+    numbers: &[u32],
+    out: &mut [u32],
+) -> Verdict
+    ensures { λ v. ⌜ (v ≡ writeSheet (settingFrom n f correct drift tightness) (now (numbers .entry)) (now (out .entry)) .verdict)
+        × (now (out .exit) ≡ writeSheet (settingFrom n f correct drift tightness) (now (numbers .entry)) (now (out .entry)) .buffer)
+        × Recorded (settingFrom n f correct drift tightness) (now (numbers .entry)) v (now (out .exit)) ⌝ }
+{
+    let v = write_verdict(n, f, correct, drift, tightness, numbers, out.len());
+    match v {
+        Verdict::Accepted => {
+            write_setting(n, f, correct, drift, tightness, out);
+            write_entries(numbers, out);
+            Verdict::Accepted
+        }
+        Verdict::Refused(c) => Verdict::Refused(c),
+    }
+}
