@@ -1,6 +1,6 @@
 -- Fields within their widths are read back from the words that spell them; words that pass causes 1 to 4 and 6 are those that spell what
 -- they are read as. So what the recorder writes is the sole spelling of what it is given.
--- Main results: `setting-read`, `entry-read`, `spelled-again`, `sole-spelling`, `recorded`.
+-- Main results: `setting-read`, `entry-read`, `spelled-again`, `sole-spelling`, `recorded`, `refusal-writes-nothing`, `later-words-kept`.
 use mathlib.Core.Path.{_≡_, refl, sym, _∙_, ap, ap₂, subst}
 use mathlib.Core.Bool.{Bool, true, not, _&&_}
 use mathlib.Core.List.{List, [], _∷_, _++_}
@@ -9,10 +9,10 @@ use native.Mathlib.Nat.{not-suc-le-zero}
 use native.Mathlib.Omega.{arith}
 use lib.Dec.{ltb, leb, eqb}
 use lib.ListN.{length, getD, take, drop, drop-of-length-le}
-use lib.Seq.{drop-cons, take-at}
+use lib.Seq.{drop-cons, drop-at, take-at}
 use borrow.Author.Tests.{ltb-true, ltb-false, leb-true, eqb-true, lt-ltb, le-leb, eq-eqb}
 use Rattle.protocol.specs.Base.{all, table}
-use Rattle.protocol.specs.Types.{Setting, Entry, Verdict, Accepted, Refused}
+use Rattle.protocol.specs.Types.{Setting, Entry, Cause, Verdict, Accepted, Refused}
 use Rattle.protocol.specs.Words.{bits, kindOf, timeOf, isTime, settingOf, firstFieldsFit, firstWordFits, secondWordFits, entryOf, zeroWhereUnused, entryFits}
 use Rattle.protocol.specs.Words.{settingAt, entryCount, placeOf, entryAt, entryFitsAt, entriesAt}
 use Rattle.protocol.specs.Causes.{sheetVerdict}
@@ -313,3 +313,24 @@ recorded g xs out = go (writeVerdict g xs (length out)) refl
         subst (SoleSpelling g (entriesIn xs)) (sym (take-at (sheetOf g (entriesIn xs)) _ (placeOf (countIn xs)) (length-written g xs)))
         (sole-spelling g (entriesIn xs) (spells-them g (entriesIn xs) (setting-widths g (w .setting)) (w .fits) (w .within) (w .ranged) few))
     go (Refused c) e = not-accepted c
+
+-- "Every refusal comes before anything is written"
+pub refusal-writes-nothing : (g : Setting) (xs out : List ℕ) (c : Cause) → writeSheet g xs out .verdict ≡ Refused c → writeSheet g xs out .buffer ≡ out
+unfolding writeSheet
+refusal-writes-nothing g xs out c = go (writeVerdict g xs (length out))
+  where
+    go : (v : Verdict) → writeIf v (sheetOf g (entriesIn xs)) out .verdict ≡ Refused c → writeIf v (sheetOf g (entriesIn xs)) out .buffer ≡ out
+    go Accepted e = not-accepted c (sym e)
+    go (Refused d) e = refl
+
+-- "words past the last one written are kept"
+pub later-words-kept : (g : Setting) (xs out : List ℕ) → drop (placeOf (countIn xs)) (writeSheet g xs out .buffer) ≡ drop (placeOf (countIn xs)) out
+unfolding writeSheet
+later-words-kept g xs out = go (writeVerdict g xs (length out))
+  where
+    ws : List ℕ
+    ws = sheetOf g (entriesIn xs)
+
+    go : (v : Verdict) → drop (placeOf (countIn xs)) (writeIf v ws out .buffer) ≡ drop (placeOf (countIn xs)) out
+    go Accepted = drop-at ws (drop (length ws) out) (placeOf (countIn xs)) (length-written g xs) ∙ ap (λ (k : ℕ). drop k out) (length-written g xs)
+    go (Refused c) = refl

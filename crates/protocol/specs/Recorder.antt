@@ -96,6 +96,9 @@ pub record SoleSpelling (g : Setting) (es : List Entry) (ws : List ℕ) : Type 0
   pub spells : Spells g es ws
   pub sole : (vs : List ℕ) → ((i : ℕ) → getD vs i 0 < 2 ^ 32) → Spells g es vs → vs ≡ ws
 
--- of what the buffer holds after an accepted call
+-- the buffer begins with the sole spelling of what was given; so it is after each accepted call
+abbrev pub HoldsSheet : Setting → List ℕ → List ℕ → Type 0
+HoldsSheet g xs out = SoleSpelling g (entriesIn xs) (take (placeOf (countIn xs)) out)
+
 abbrev pub Recorded : Setting → List ℕ → Verdict → List ℕ → Type 0
-Recorded g xs v out = v ≡ Accepted → SoleSpelling g (entriesIn xs) (take (placeOf (countIn xs)) out)
+Recorded g xs v out = v ≡ Accepted → HoldsSheet g xs out

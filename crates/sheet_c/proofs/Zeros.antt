@@ -1,4 +1,4 @@
--- What the number 0 says: main result `agrees-in-numbers`.
+-- What the number 0 says: main results `agrees-in-numbers`, `recorded-if-accepted`.
 use mathlib.Core.Path.{_≡_, refl, sym, _∙_, ap}
 use mathlib.Core.Bool.{Bool, true, false}
 use mathlib.Core.List.{List, [], _∷_}
@@ -8,16 +8,19 @@ use lib.ListN.{getD}
 use Rattle.protocol.specs.declared.Setting.{Setting}
 use Rattle.protocol.specs.declared.Cause.{Cause}
 use Rattle.protocol.specs.declared.Cause.the-variants.{TooManyWords, BadLength, BadFirstWord, BadSecondWord, ShortBuffer, BadEntry, TimeFell, ReadingFell, ActionClosed, BadRecord, CounterTooFar, BadField}
+use Rattle.protocol.specs.declared.Verdict.{Verdict}
+use Rattle.protocol.specs.declared.Verdict.the-variants.{Accepted, Refused}
 use Rattle.protocol.specs.declared.Replayed.{Replayed}
 use Rattle.protocol.specs.declared.Replayed.the-variants.{Filled, TurnedBack}
 use Rattle.protocol.specs.declared.Judged.{Judged}
 use Rattle.protocol.specs.declared.Judged.the-variants.{Kept}
-use Rattle.protocol.specs.Causes.{causeNumber}
+use Rattle.protocol.specs.Causes.{causeNumber, verdictNumber}
 use Rattle.protocol.specs.Run.{Run, stopped, ran, runSheet}
 use Rattle.protocol.specs.Premises.{premises, firstBroken, judgeRun, judge}
 use Rattle.protocol.specs.declared.Report.{Report}
 use Rattle.protocol.specs.Claim.{AgreesInWords}
-use Rattle.sheet_c.specs.Numbers.{AgreesInNumbers, answerNumbers, judgedNumber}
+use Rattle.protocol.specs.Recorder.{Recorded}
+use Rattle.sheet_c.specs.Numbers.{AgreesInNumbers, RecordedIfAccepted, answerNumbers, judgedNumber}
 
 pub cause-range : (c : Cause) → (0 < causeNumber c) × (causeNumber c < 13)
 cause-range TooManyWords = (omega arith, omega arith)
@@ -59,3 +62,11 @@ agrees-in-numbers ws out answer k r is number numbers claim k0 cause0 _ _ h e =
     let kept = is ∙ kept-at-0 ws (ap judgedNumber (sym is) ∙ sym number ∙ k0) in
     let filled = filled-at-0 (r .replayed) (r .judged) (sym (ap (λ (l : List ℕ). getD l 0 0) numbers) ∙ cause0) in
     claim kept filled h e
+
+-- and so for what the writer is for
+accepted-at-0 : (v : Verdict) → verdictNumber v ≡ 0 → v ≡ Accepted
+accepted-at-0 Accepted e = refl
+accepted-at-0 (Refused c) e = absurd (omega (arith, e, cause-range c))
+
+pub recorded-if-accepted : (g : Setting) (xs out : List ℕ) (k : ℕ) (v : Verdict) → k ≡ verdictNumber v → Recorded g xs v out → RecordedIfAccepted g xs k out
+recorded-if-accepted g xs out k v number claim k0 = claim (accepted-at-0 v (sym number ∙ k0))

@@ -1,8 +1,9 @@
--- What a program written in C gets for a sheet, in numbers.
+-- What a program written in C gets for a sheet that it gives or has written, in numbers.
 use mathlib.Core.Path.{_≡_}
 use mathlib.Core.List.{List, _++_}
 use Prim.Native.Nat.{ℕ, _+_}
 use lib.ListN.{getD}
+use Rattle.protocol.specs.declared.Setting.{Setting}
 use Rattle.protocol.specs.declared.Replayed.{Replayed}
 use Rattle.protocol.specs.declared.Replayed.the-variants.{Filled}
 use Rattle.protocol.specs.declared.Judged.{Judged}
@@ -11,6 +12,7 @@ use Rattle.protocol.specs.Causes.{causeNumber}
 use Rattle.protocol.specs.Results.{replayedNumbers}
 use Rattle.protocol.specs.Premises.{judgedNumbers}
 use Rattle.protocol.specs.Claim.{AgreesInWords}
+use Rattle.protocol.specs.Recorder.{HoldsSheet}
 
 -- the replay's cause and place, the judge's, and the first broken premise; each 0 where there is none
 abbrev pub answerNumbers : Replayed → Judged → List ℕ
@@ -30,3 +32,7 @@ judgedNumber (Unjudged c p) = 16 + causeNumber c
 abbrev pub AgreesInNumbers : List ℕ → ℕ → List ℕ → List ℕ → Type 0
 AgreesInNumbers ws k answer out =
     k ≡ 0 → _≡_ {A = ℕ} (getD answer 0 0) 0 → AgreesInWords ws (record { replayed = Filled; judged = Kept }) out
+
+-- what the writer is for, where its number is 0
+abbrev pub RecordedIfAccepted : Setting → List ℕ → ℕ → List ℕ → Type 0
+RecordedIfAccepted g xs k out = k ≡ 0 → HoldsSheet g xs out

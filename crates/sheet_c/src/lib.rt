@@ -1,14 +1,18 @@
-// What a program written in C calls to replay and judge a sheet; include/daisarnica_sheet.h declares it.
+// What a program written in C calls to write a sheet, and to replay and judge one; include/daisarnica_sheet.h declares it.
 use data_values::cause_number;
 use judge_sheet::replay_and_judge;
 use protocol::Judged;
 use protocol::Replayed;
+use protocol::Verdict;
+use sheet_writer::write_sheet;
 ghost use mathlib.Core.Path.{_≡_};
 ghost use mathlib.Core.List.{_∷_};
 ghost use Prim.Native.Nat.{_^_, _<_};
+ghost use Rattle.protocol.specs.Causes.{verdictNumber};
 ghost use Rattle.protocol.specs.Premises.{judge, judgedNumbers};
 ghost use Rattle.protocol.specs.Results.{replay, replayedNumbers};
-ghost use Rattle.sheet_c.specs.Numbers.{AgreesInNumbers, answerNumbers, judgedNumber, placeIn};
+ghost use Rattle.protocol.specs.Recorder.{settingFrom, writeSheet};
+ghost use Rattle.sheet_c.specs.Numbers.{AgreesInNumbers, RecordedIfAccepted, answerNumbers, judgedNumber, placeIn};
 
 // The judge's numbers behind the replay's cause and place.
 fn numbers_behind(cause: u32, place: u32, j: Judged) -> [u32; 5]
@@ -40,6 +44,33 @@ fn judged_number(j: Judged) -> u32
         Judged::Broken(i) => i as u32,
         Judged::Unjudged(c, _) => 16 + cause_number(c),
     }
+}
+
+fn verdict_number(v: Verdict) -> u32
+    ensures { λ k. ⌜ k ≡ verdictNumber v ⌝ }
+{
+    match v {
+        Verdict::Accepted => 0,
+        Verdict::Refused(c) => cause_number(c),
+    }
+}
+
+// Writes a run sheet from its fields into a lent buffer; returns 0 or the cause.
+#[no_mangle]
+pub extern "C" fn daisarnica_write_sheet(
+    n: u32,
+    f: u32,
+    correct: u32,
+    drift: u32,
+    tightness: u32,
+    numbers: &[u32],
+    out: &mut [u32],
+) -> u32
+    ensures { λ k. ⌜ (k ≡ verdictNumber (writeSheet (settingFrom n f correct drift tightness) (now (numbers .entry)) (now (out .entry)) .verdict))
+        × (now (out .exit) ≡ writeSheet (settingFrom n f correct drift tightness) (now (numbers .entry)) (now (out .entry)) .buffer)
+        × RecordedIfAccepted (settingFrom n f correct drift tightness) (now (numbers .entry)) k (now (out .exit)) ⌝ }
+{
+    verdict_number(write_sheet(n, f, correct, drift, tightness, numbers, out))
 }
 
 // Replays a sheet into a lent buffer and judges it; writes the five numbers of both answers and returns the judge's in one.

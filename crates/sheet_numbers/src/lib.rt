@@ -31,14 +31,7 @@ fn setting_in_width(n: u32, f: u32, correct: u32, drift: u32, tightness: u32) ->
 
 // "12 when a field exceeds its width or is set where 01 wants zero": an entry's six. The last test takes fields within their widths, so the
 // parts are joined by `&&`.
-fn entry_in_width(
-    time: u32,
-    reading: u32,
-    head: u32,
-    action: u32,
-    sender: u32,
-    serial: u32,
-) -> bool
+fn entry_in_width(time: u32, reading: u32, head: u32, action: u32, sender: u32, serial: u32) -> bool
     ensures { λ r. ⌜ r ≡ entryInWidth (entryFrom time reading head action sender serial) ⌝ }
 {
     is_time(time)
@@ -66,7 +59,14 @@ fn test_entry(n: u32, numbers: &[u32], i: usize) -> Tested
     let head = numbers[at + 2];
     let action = numbers[at + 3];
     let sender = numbers[at + 4];
-    let in_width = entry_in_width(numbers[at], numbers[at + 1], head, action, sender, numbers[at + 5]);
+    let in_width = entry_in_width(
+        numbers[at],
+        numbers[at + 1],
+        head,
+        action,
+        sender,
+        numbers[at + 5],
+    );
     let in_range = entry_in_range(n, head, action, sender);
     Tested { in_width, in_range }
 }

@@ -47,14 +47,14 @@ pub next-entry : (before out xs : List ℕ) (i : ℕ) (w : EntryWords) → i < c
 next-entry before out xs i w h room was is =
     let front = take 2 before ++ entryWords (table (entryIn xs) 0 i) in
     let long : length front ≡ placeOf i =
-        length-append (take 2 before) (entryWords (table (entryIn xs) 0 i))
-        ∙ ap₂ _+_ (length-take-le 2 before (omega arith)) (length-entry-words (table (entryIn xs) 0 i) ∙ ap (λ (k : ℕ). 3 * k) (length-table (entryIn xs) 0 i)) in
+    length-append (take 2 before) (entryWords (table (entryIn xs) 0 i))
+    ∙ ap₂ _+_ (length-take-le 2 before (omega arith)) (length-entry-words (table (entryIn xs) 0 i) ∙ ap (λ (k : ℕ). 3 * k) (length-table (entryIn xs) 0 i)) in
     let stored = three-more front before out (placeOf i) (placeOf (i + 1)) (w .time) (w .reading) (w .action) 0 long (omega arith) (omega arith) was in
     let three : (w .time ∷ w .reading ∷ w .action ∷ []) ≡ (timeWord (entryIn xs i) ∷ readingWord (entryIn xs i) ∷ actionWord (entryIn xs i) ∷ []) =
-        ap₂ _∷_ (is .0) (ap₂ _∷_ (is .1) (ap₂ _∷_ (is .2) refl)) in
+    ap₂ _∷_ (is .0) (ap₂ _∷_ (is .1) (ap₂ _∷_ (is .2) refl)) in
     let words : front ++ (w .time ∷ w .reading ∷ w .action ∷ []) ≡ take 2 before ++ entryWords (table (entryIn xs) 0 (i + 1)) =
-        ap (λ (l : List ℕ). front ++ l) three ∙ append-assoc (take 2 before) _ _
-        ∙ ap (λ (l : List ℕ). take 2 before ++ l) (sym (ap entryWords (table-last (entryIn xs) i) ∙ words-last (table (entryIn xs) 0 i) (entryIn xs i))) in
+    ap (λ (l : List ℕ). front ++ l) three ∙ append-assoc (take 2 before) _ _
+    ∙ ap (λ (l : List ℕ). take 2 before ++ l) (sym (ap entryWords (table-last (entryIn xs) i) ∙ words-last (table (entryIn xs) 0 i) (entryIn xs i))) in
     stored ∙ ap (λ (l : List ℕ). l ++ drop (placeOf (i + 1)) before) words
 
 -- THE WHOLE SHEET
@@ -78,12 +78,15 @@ module _ (g : Setting) (xs out : List ℕ) where
   wrote front after e setting entries =
       let room = writable g xs (length out) e .enough in
       let left : after ≡ writeIf Accepted (sheetOf g (entriesIn xs)) out .buffer =
-          entries ∙ ap (λ (l : List ℕ). entriesBehind l xs (countIn xs)) setting
-          ∙ sheet-in (omega arith) ∙ ap (λ (k : ℕ). sheetOf g (entriesIn xs) ++ drop k out) (sym (length-written g xs)) in
+      entries ∙ ap (λ (l : List ℕ). entriesBehind l xs (countIn xs)) setting
+      ∙ sheet-in (omega arith) ∙ ap (λ (k : ℕ). sheetOf g (entriesIn xs) ++ drop k out) (sym (length-written g xs)) in
       let told : (Accepted ≡ writeIf (writeVerdict g xs (length out)) (sheetOf g (entriesIn xs)) out .verdict)
-          × (after ≡ writeIf (writeVerdict g xs (length out)) (sheetOf g (entriesIn xs)) out .buffer) = rw e (refl, left) in
-      (told .0, told .1, subst (λ (v : Verdict). Recorded g xs v after) (sym (told .0))
-      (subst (Recorded g xs (writeSheet g xs out .verdict)) (sym (told .1)) (recorded g xs out)))
+      × (after ≡ writeIf (writeVerdict g xs (length out)) (sheetOf g (entriesIn xs)) out .buffer) = rw e (refl, left) in (
+        told .0,
+        told .1,
+        subst (λ (v : Verdict). Recorded g xs v after) (sym (told .0))
+            (subst (Recorded g xs (writeSheet g xs out .verdict)) (sym (told .1)) (recorded g xs out)),
+      )
 
   pub turned-back : (c : Cause) → writeVerdict g xs (length out) ≡ Refused c
       → (Refused c ≡ writeSheet g xs out .verdict) × (out ≡ writeSheet g xs out .buffer) × Recorded g xs (Refused c) out

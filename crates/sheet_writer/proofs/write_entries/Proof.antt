@@ -64,8 +64,7 @@ loop-less c = search needs
 loop-again : tie.Need-loop-again Inv-loop μ-loop
 loop-again c =
     let A = c .before .before .before .before .before .args in
-    let L = c .before .before .loop in
-    (
+    let L = c .before .before .loop in (
       omega arith,
       simp length-set (L .inv .1),
       next-entry (now (A .out)) (L .out) (now (A .numbers)) (L .i) _ (c .before .loop-test .taken) (c .before .before .before .before .before .pre .2) (L .inv .2) (c .entry-words .ensures),
