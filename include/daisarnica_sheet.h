@@ -1,11 +1,11 @@
-/* daisarnica_sheet.h: a whole run sheet, replayed and judged, for programs written in C.
+/* daisarnica_sheet.h: whole run sheets for programs written in C: one is written from its fields, or replayed and judged.
  *
- * The call takes no other memory than what is lent to it and some 10 KB of stack, has no state between calls, and
- * always returns. It needs memcpy and memset and nothing else.
+ * A call takes no other memory than what is lent to it and some 10 KB of stack, has no state between calls, and always
+ * returns. It needs memcpy and memset and nothing else.
  *
- * Every sheet has an answer: what is against the rules is turned back with its cause and its place, and the result
- * words are then left as they were. What the caller owes: each pointer is to memory of its own that holds as many
- * words as are said, and the three do not overlap. */
+ * Every input has an answer: what is against the rules is turned back with its cause, and the buffer is then left as it
+ * was. What the caller owes: each pointer is to memory of its own that holds as many words as are said, and the parts of
+ * one call do not overlap. */
 #ifndef DAISARNICA_SHEET_H
 #define DAISARNICA_SHEET_H
 
@@ -19,6 +19,37 @@ extern "C" {
 /* A sheet has 2 words and 3 for each of at most 4,096 entries. There are 3 result words for each of at most 16 heads. */
 #define DAISARNICA_SHEET_WORDS 12290
 #define DAISARNICA_RESULT_WORDS 48
+
+/* A recorder gives six numbers for each entry. */
+#define DAISARNICA_ENTRY_NUMBERS 6
+#define DAISARNICA_SHEET_NUMBERS (DAISARNICA_ENTRY_NUMBERS * 4096)
+
+/* The causes that the writer returns; 0 is for a sheet that was written. */
+enum {
+    DAISARNICA_WRITTEN = 0,
+    DAISARNICA_TOO_MANY_NUMBERS = 1,  /* more than DAISARNICA_SHEET_NUMBERS */
+    DAISARNICA_NOT_WHOLE_ENTRIES = 2, /* a count that is not a whole number of sixes */
+    DAISARNICA_BAD_FIRST_WORD = 3,    /* n not 2 to 16, 2 f + 1 above n, or a correct bit at n or above */
+    DAISARNICA_SHORT_BUFFER = 5,      /* out_words below 2 + 3 for each entry */
+    DAISARNICA_BAD_ENTRY = 6,         /* an action above 9, or a head or sender not below n */
+    DAISARNICA_BAD_FIELD = 12         /* a number too large for its field, or not 0 where the field is not used */
+};
+
+/* Writes the run sheet of n heads of which at most f are faulty, with a bit of correct for each correct head (bit 0 for
+ * head 0), drift in parts per million and tightness in microseconds, and of count / 6 entries into the buffer out of
+ * out_words words. An entry's six numbers are real time, reading, head, action, sender, serial; the sender is 0 except in
+ * actions 2, 5 and 8, the serial except in 5 and 8. The sheet has 2 + count / 6 * 3 words; words behind it are left as
+ * they were.
+ *
+ * Widths of the fields in bits: n 8, f 4, correct 16, drift 12, tightness 16, real time and reading 28, the others 4.
+ *
+ * Returns 0 or a cause: the first that applies of 1, 2, 12, 3, 6 and 5, in this order. Nothing is written then. The
+ * order of times and readings and whether an action is open are not asked: those are for the replay.
+ *
+ * If it returns 0, the sheet is not turned back by causes 1 to 4 or 6, it is read back as the same fields, and no other
+ * words are. */
+uint32_t daisarnica_write_sheet(uint32_t n, uint32_t f, uint32_t correct, uint32_t drift, uint32_t tightness,
+                                const uint32_t *numbers, size_t count, uint32_t *out, size_t out_words);
 
 /* Where the numbers of an answer stand. A cause is 1 to 9; its place is the index of the refused entry's first word, and
  * 0 for what concerns the sheet as a whole. Each number is 0 where there is none. */

@@ -1,6 +1,7 @@
 //! Reference implementation of document 01 ("The merge bench's common time: one
-//! round on the CAN bus"), written from its text alone. Clarity comes before
-//! speed, except in [`fast`], which is a second form of replay and judge.
+//! round on the CAN bus") and of the requests of document 02 that have landed,
+//! written from their text alone. Clarity comes before speed, except in [`fast`],
+//! which is a second form of replay and judge.
 
 pub mod ask;
 #[cfg(feature = "board")]
@@ -14,6 +15,7 @@ pub mod judge;
 pub mod program;
 pub mod random;
 pub mod record;
+pub mod recorder;
 pub mod results;
 pub mod round;
 pub mod sheet;

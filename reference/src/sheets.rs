@@ -1,4 +1,5 @@
-//! A whole sheet at the proved static library, beside the reference.
+//! A whole sheet at the proved static library, beside the reference; and one that
+//! the library writes.
 
 use crate::fast;
 use crate::judge::judge;
@@ -17,6 +18,28 @@ extern "C" {
         out_words: usize,
         answer: *mut [u32; 5],
     ) -> u32;
+
+    fn daisarnica_write_sheet(
+        n: u32,
+        f: u32,
+        correct: u32,
+        drift: u32,
+        tightness: u32,
+        numbers: *const u32,
+        count: usize,
+        out: *mut u32,
+        out_words: usize,
+    ) -> u32;
+}
+
+/// One call of the library's recorder: 0 or the cause. `given` is n, f, correct
+/// bits, drift and tightness.
+pub fn proved_recording(given: &[u32; 5], numbers: &[u32], out: &mut [u32]) -> u32 {
+    let [n, f, correct, drift, tightness] = *given;
+    let (list, buffer) = (numbers.as_ptr(), out.as_mut_ptr());
+    let (count, room) = (numbers.len(), out.len());
+    // The pointers are to slices of the lengths that are given.
+    unsafe { daisarnica_write_sheet(n, f, correct, drift, tightness, list, count, buffer, room) }
 }
 
 /// One call of the library: the judge's number, and the five numbers of both answers.
