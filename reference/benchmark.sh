@@ -1,7 +1,7 @@
 #!/bin/sh
-# Replay and judge of one sheet, by the proved static library and by the fast form of the reference, both built for release
-# and called by one program on the same words. Prints time and instructions of one call and their ratios; the reference is
-# measured with overflow checks (as it is tested) and without.
+# Replay and judge of one sheet, and its recording from numbers, by the proved static library and by the reference (replay
+# and judge by its fast form), both built for release and called by one program on the same sheets. Prints time and
+# instructions of one call and their ratios; the reference is measured with overflow checks (as it is tested) and without.
 set -eu
 cd "$(dirname "$0")/.."
 work=$(mktemp -d)
@@ -25,19 +25,36 @@ instructions() {
     echo $(((many - few) / 10))
 }
 
-# table TITLE FILE: from lines of profile, sheet, proved and reference
+# table TITLE FILE WHAT: from lines of profile, what is done, sheet, proved and reference
 table() {
     echo "| $1 | Overflow checks in the reference | Proved | Reference | Ratio |"
     echo "|---|---|---|---|---|"
-    awk '{ printf "| %s | %s | %d | %d | %.2f |\n", $2, $1 == "release" ? "on" : "off", $3, $4, $3 / $4 }' "$2"
+    awk -v what="$3" '$2 == what { printf "| %s | %s | %d | %d | %.2f |\n", $3, $1 == "release" ? "on" : "off", $4, $5, $4 / $5 }' "$2"
 }
 
 for profile in release speed; do
     "target/$profile/benchmark" | sed "s/^/$profile /" >>"$work/time"
     for sheet in m1 three five full starts; do
-        echo "$profile $sheet $(instructions $profile $sheet proved) $(instructions $profile $sheet reference)" >>"$work/count"
+        for what in replay record; do
+            echo "$profile $what $sheet $(instructions $profile $sheet $what) $(instructions $profile $sheet $what-reference)" >>"$work/count"
+        done
     done
 done
-table Nanoseconds "$work/time"
+for sheet in m1 three five full starts; do
+    echo "$sheet $(instructions speed $sheet tests) $(instructions speed $sheet record)" >>"$work/parts"
+done
+echo "Replay and judge:"
 echo
-table Instructions "$work/count"
+table Nanoseconds "$work/time" replay
+echo
+table Instructions "$work/count" replay
+echo
+echo "Recorder:"
+echo
+table Nanoseconds "$work/time" record
+echo
+table Instructions "$work/count" record
+echo
+echo "| Instructions | Tests alone | Tests and writing |"
+echo "|---|---|---|"
+awk '{ printf "| %s | %d | %d |\n", $1, $2, $3 }' "$work/parts"

@@ -109,7 +109,8 @@ pub fn write_verdict(
         let tested = test_entries(n, numbers);
         let in_width = setting_in_width(n, f, correct, drift, tightness) & tested.in_width;
         if in_width {
-            if first_fields_fit(n as u8, f as u8, correct as u16) {
+            let first_fits = first_fields_fit(n as u8, f as u8, correct as u16);
+            if first_fits {
                 if tested.in_range {
                     if room < 2 + 3 * (len / NUMBERS_PER_ENTRY) {
                         return Verdict::Refused(Cause::ShortBuffer);

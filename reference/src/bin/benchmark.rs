@@ -1,16 +1,21 @@
 //! Replay and judge by the proved static library and by the fast form here, on
-//! the same words. `benchmark` prints for each sheet the time of one call in
-//! nanoseconds, the median of several runs: sheet, proved, reference. `benchmark
+//! the same words; and the recorder of both, on the fields of the same sheets.
+//! `benchmark` prints for each sheet the time of one call in nanoseconds, the
+//! median of several runs: what is done, sheet, proved, reference. `benchmark
 //! SHEET FORM CALLS` only makes the calls, for a count of instructions.
 
 use reference::fast;
 use reference::program::read_words;
+use reference::recorder::record;
 use reference::results::HeadResult;
-use reference::sheets::proved;
+use reference::sheet::check_front;
+use reference::sheets::{proved, proved_recording};
+use reference::words::{read_entry, Settings, MAX_WORDS};
 use std::hint::black_box;
 use std::time::Instant;
 
 const ENTRIES: usize = 4096;
+/// Three for each of at most 16 heads.
 const RESULT_WORDS: usize = 48;
 const RUNS: usize = 301;
 /// The length of one run: so short that other programs seldom interrupt it.
@@ -129,55 +134,107 @@ fn compare(name: &str, words: &[u32]) {
     assert_eq!(shown, results, "{name}");
 }
 
-fn call(form: &str, words: &[u32], calls: u128) {
-    let mut out = [0; RESULT_WORDS];
-    for _ in 0..calls {
-        if form == "proved" {
-            black_box(proved(black_box(words), &mut out));
-        } else {
-            let _ = black_box(fast::answer(black_box(words), Some(RESULT_WORDS)));
-        }
-        black_box(&out);
-    }
+/// A sheet's words, and the fields that it is written from.
+struct Sheet {
+    name: &'static str,
+    words: Vec<u32>,
+    given: Settings,
+    numbers: Vec<u32>,
 }
 
-fn nanoseconds(form: &str, words: &[u32], calls: u128) -> u128 {
-    let start = Instant::now();
-    call(form, words, calls);
-    start.elapsed().as_nanos()
-}
-
-/// The median time of one call, of both forms by turns.
-fn measure(words: &[u32]) -> [u128; 2] {
-    let forms = ["proved", "reference"];
-    let calls = forms.map(|form| 1 + RUN_NANOSECONDS * 10 / nanoseconds(form, words, 10).max(1));
-    let mut times = [[0; 2]; RUNS];
-    for run in &mut times {
-        for (i, form) in forms.iter().enumerate() {
-            run[i] = nanoseconds(form, words, calls[i]) / calls[i];
+impl Sheet {
+    fn new(name: &'static str, words: Vec<u32>) -> Sheet {
+        let given = check_front(&words, None).expect("an accepted sheet");
+        let numbers = words[2..].chunks(3).flat_map(|three| {
+            let e = read_entry(three, given.n).expect("an accepted sheet");
+            [e.time.0, e.reading.0, e.head, e.action, e.sender, e.serial]
+        });
+        Sheet {
+            name,
+            given,
+            numbers: numbers.collect(),
+            words,
         }
     }
-    [0, 1].map(|i| {
-        let mut list = times.map(|run| run[i]);
-        list.sort_unstable();
-        list[RUNS / 2]
-    })
+
+    /// One call of the proved recorder.
+    fn record(&self, out: &mut [u32]) -> u32 {
+        let g = &self.given;
+        let given = [g.n, g.f, g.correct, g.drift, g.tightness];
+        proved_recording(black_box(&given), black_box(&self.numbers), out)
+    }
+
+    /// That both recorders write the sheet's words.
+    fn compare_recorders(&self) {
+        for form in ["record", "record-reference"] {
+            let mut out = vec![0; MAX_WORDS];
+            self.call(form, 1, &mut out);
+            assert_eq!(out[..self.words.len()], self.words, "{}", self.name);
+        }
+    }
+
+    /// So many calls of one form. `tests` is the recorder with a buffer that is too
+    /// short: all tests are made, and nothing is written.
+    fn call(&self, form: &str, calls: u128, out: &mut [u32]) {
+        for _ in 0..calls {
+            let words = black_box(&self.words);
+            match form {
+                "replay" => _ = black_box(proved(words, &mut out[..RESULT_WORDS])),
+                "replay-reference" => _ = black_box(fast::answer(words, Some(RESULT_WORDS))),
+                "record" => _ = black_box(self.record(out)),
+                "tests" => _ = black_box(self.record(&mut out[..1])),
+                "record-reference" => {
+                    _ = black_box(record(&self.given, black_box(&self.numbers), out))
+                }
+                _ => panic!("no form {form}"),
+            }
+            black_box(&out);
+        }
+    }
+
+    fn nanoseconds(&self, form: &str, calls: u128) -> u128 {
+        let mut out = vec![0; MAX_WORDS];
+        let start = Instant::now();
+        self.call(form, calls, &mut out);
+        start.elapsed().as_nanos()
+    }
+
+    /// The median time of one call, of both forms by turns.
+    fn measure(&self, forms: [&str; 2]) -> [u128; 2] {
+        let calls = forms.map(|form| 1 + RUN_NANOSECONDS * 10 / self.nanoseconds(form, 10).max(1));
+        let mut times = [[0; 2]; RUNS];
+        for run in &mut times {
+            for (i, form) in forms.iter().enumerate() {
+                run[i] = self.nanoseconds(form, calls[i]) / calls[i];
+            }
+        }
+        [0, 1].map(|i| {
+            let mut list = times.map(|run| run[i]);
+            list.sort_unstable();
+            list[RUNS / 2]
+        })
+    }
 }
 
 fn main() {
     let arguments: Vec<String> = std::env::args().skip(1).collect();
-    let sheets = sheets();
+    let sheets = sheets().map(|(name, words)| Sheet::new(name, words));
     match arguments.as_slice() {
         [] => {
-            for (name, words) in &sheets {
-                compare(name, words);
-                let [proved, reference] = measure(words);
-                println!("{name} {proved} {reference}");
+            for sheet in &sheets {
+                compare(sheet.name, &sheet.words);
+                sheet.compare_recorders();
+                for what in ["replay", "record"] {
+                    let [proved, reference] = sheet.measure([what, &format!("{what}-reference")]);
+                    println!("{what} {} {proved} {reference}", sheet.name);
+                }
             }
         }
         [name, form, calls] => {
-            let (_, words) = sheets.iter().find(|s| s.0 == name).expect("a sheet's name");
-            call(form, words, calls.parse().expect("a number of calls"));
+            let sheet = sheets.iter().find(|s| s.name == name);
+            let calls = calls.parse().expect("a number of calls");
+            let mut out = vec![0; MAX_WORDS];
+            sheet.expect("a sheet's name").call(form, calls, &mut out);
         }
         _ => panic!("usage: benchmark [SHEET FORM CALLS]"),
     }

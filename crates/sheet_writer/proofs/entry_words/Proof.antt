@@ -68,7 +68,7 @@ add-t20 : tie.Need-add-t20
 add-t20 c = let A = c .before .before .before .before .before .before .before .args in let w = entry-widths (entryIn (now (A .numbers)) (A .i)) (c .before .before .before .before .before .before .before .pre .2) in omega arith
 
 action-word-requires : tie.Need-action-word-requires
-action-word-requires c κs = let A = c .before .before .before .before .before .before .before .args in let w = entry-widths (entryIn (now (A .numbers)) (A .i)) (c .before .before .before .before .before .before .before .pre .2) in (w .head, w .action, w .sender, w .serial)
+action-word-requires c κs = let A = c .before .before .before .before .before .before .before .args in let w = entry-widths (entryIn (now (A .numbers)) (A .i)) (c .before .before .before .before .before .before .before .pre .2) in (omega arith, omega arith, omega arith, omega arith)
 
 returns : tie.Need-returns
 returns c = search needs
