@@ -1,13 +1,14 @@
-//! M1 to M12 of document 01, and the causes of one head.
+//! M1 to M12 of document 01, the causes of one head, and the recorder of document 02.
 
 use reference::counter::counter_reading;
 use reference::fast;
 use reference::judge::judge;
 use reference::program::printed;
 use reference::record::{median, Record};
+use reference::recorder::record;
 use reference::sheet::{check_front, replay, run};
 use reference::step::{step, Frame, Input};
-use reference::words::{to_bytes, write_entry, Cause, Entry, Reading, RealTime, Refusal};
+use reference::words::{to_bytes, write_entry, Cause, Entry, Reading, RealTime, Refusal, Settings};
 
 /// M1's first two words.
 const FRONT: [u32; 2] = [0x1020_0003, 0x2064_000A];
@@ -243,4 +244,50 @@ fn record_ranges() {
     assert!(!fits_with(&|r| r.confirmed = true));
     assert!(!fits_with(&|r| r.adjust_turn = true));
     assert!(!fits_with(&|r| r.adjust_close = true));
+}
+
+/// n, f, correct bits, drift and tightness.
+fn settings(given: [u32; 5]) -> Settings {
+    let [n, f, correct, drift, tightness] = given;
+    Settings {
+        n,
+        f,
+        correct,
+        drift,
+        tightness,
+    }
+}
+
+#[test]
+fn m1_recorded_from_its_numbers() {
+    let mut buffer = [7; 66];
+    let written = record(
+        &settings([2, 0, 3, 100, 10]),
+        &ENTRIES.concat(),
+        &mut buffer,
+    );
+    assert_eq!(written, Ok(()));
+    assert_eq!(buffer[..65], m1());
+    assert_eq!(buffer[65], 7, "words past the last one written are kept");
+}
+
+#[test]
+fn recorder_names_the_first_cause() {
+    let refused = |given: [u32; 5], numbers: &[u32], room: usize| {
+        let mut buffer = vec![7; room];
+        let cause = record(&settings(given), numbers, &mut buffer).unwrap_err();
+        assert!(buffer.iter().all(|&word| word == 7), "nothing is written");
+        cause.0
+    };
+    let look = |action, sender| [950, 1000, 1, action, sender, 0];
+    assert_eq!(refused([256, 0, 0, 0, 0], &[9; 24_577], 0), 1);
+    assert_eq!(refused([256, 0, 0, 0, 0], &[9; 7], 0), 2);
+    assert_eq!(refused([256, 0, 3, 100, 10], &look(1, 0), 0), 12);
+    assert_eq!(refused([17, 0, 3, 4096, 10], &look(1, 0), 0), 12);
+    assert_eq!(refused([17, 0, 3, 100, 10], &look(10, 1), 0), 12);
+    assert_eq!(refused([17, 0, 3, 100, 10], &look(10, 0), 0), 3);
+    assert_eq!(refused([2, 0, 4, 100, 10], &look(10, 0), 0), 3);
+    assert_eq!(refused([2, 0, 3, 100, 10], &look(10, 0), 0), 6);
+    assert_eq!(refused([2, 0, 3, 100, 10], &look(2, 2), 0), 6);
+    assert_eq!(refused([2, 0, 3, 100, 10], &look(2, 1), 4), 5);
 }

@@ -13,7 +13,7 @@ use lib.ListN.{length, getD}
 use lib.Pow.{pow-mono}
 use borrow.Author.Tests.{ltb-true, ltb-false, leb-true, eqb-true, ne-eqb}
 use Rattle.protocol.specs.Types.{Setting, Input, Cause, Verdict, Accepted, Refused}
-use Rattle.protocol.specs.Words.{mostWords, bits, kindOf, timeOf, settingOf, isCorrect, headsFit, settingAt, firstWordFits, secondWordFits, hasSerial, hasSender, zeroWhereUnused, entryOf, entryFits, entryCount}
+use Rattle.protocol.specs.Words.{mostWords, bits, kindOf, settingOf, isCorrect, headsFit, settingAt, firstWordFits, secondWordFits, hasSerial, hasSender, zeroWhereUnused, entryOf, entryFits, entryCount}
 use Rattle.protocol.specs.Step.{inputFits}
 use Rattle.protocol.specs.Causes.{sheetVerdict}
 use Rattle.protocol.specs.Program.{bigEndian, bytesVerdict}

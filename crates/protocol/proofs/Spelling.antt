@@ -2,22 +2,22 @@
 -- they are read as. So what the recorder writes is the sole spelling of what it is given.
 -- Main results: `setting-read`, `entry-read`, `spelled-again`, `sole-spelling`, `recorded`, `refusal-writes-nothing`, `later-words-kept`.
 use mathlib.Core.Path.{_≡_, refl, sym, _∙_, ap, ap₂, subst}
-use mathlib.Core.Bool.{Bool, true, not, _&&_}
-use mathlib.Core.List.{List, [], _∷_, _++_}
+use mathlib.Core.Bool.{true, not, _&&_}
+use mathlib.Core.List.{List, [], _∷_}
 use Prim.Native.Nat.{ℕ, zero, suc, _+_, _*_, _/_, _%_, _^_, _≤_, _<_}
 use native.Mathlib.Nat.{not-suc-le-zero}
 use native.Mathlib.Omega.{arith}
 use lib.Dec.{ltb, leb, eqb}
-use lib.ListN.{length, getD, take, drop, drop-of-length-le}
+use lib.ListN.{length, getD, drop, drop-of-length-le}
 use lib.Seq.{drop-cons, drop-at, take-at}
-use borrow.Author.Tests.{ltb-true, ltb-false, leb-true, eqb-true, lt-ltb, le-leb, eq-eqb}
+use borrow.Author.Tests.{ltb-true, ltb-false, eqb-true, eq-eqb}
 use Rattle.protocol.specs.Base.{all, table}
 use Rattle.protocol.specs.Types.{Setting, Entry, Cause, Verdict, Accepted, Refused}
-use Rattle.protocol.specs.Words.{bits, kindOf, timeOf, isTime, settingOf, firstFieldsFit, firstWordFits, secondWordFits, entryOf, zeroWhereUnused, entryFits}
+use Rattle.protocol.specs.Words.{bits, kindOf, timeOf, settingOf, firstFieldsFit, firstWordFits, secondWordFits, entryOf, zeroWhereUnused, entryFits}
 use Rattle.protocol.specs.Words.{settingAt, entryCount, placeOf, entryAt, entryFitsAt, entriesAt}
 use Rattle.protocol.specs.Causes.{sheetVerdict}
 use Rattle.protocol.specs.Spelling.{firstWord, secondWord, timeWord, readingWord, actionWord, entryWords, sheetOf}
-use Rattle.protocol.specs.Recorder.{numbersPerEntry, entryIn, countIn, entriesIn, mostNumbers, settingInWidth, entryInWidth, entryInRange, writeVerdict, Written, writeIf, writeSheet, Spells, SoleSpelling, Recorded}
+use Rattle.protocol.specs.Recorder.{numbersPerEntry, entryIn, countIn, entriesIn, mostNumbers, settingInWidth, entryInWidth, entryInRange, writeVerdict, writeIf, writeSheet, Spells, SoleSpelling, Recorded}
 use Rattle.protocol.proofs.Tests.{cond-elim, not-false, and-left, and-right, parts, and-both, all-at}
 use Rattle.protocol.proofs.Tables.{length-table, is-table, drop-three}
 use Rattle.protocol.proofs.Fits.{FittingSheet, FittingWords, not-accepted, sheet-fits, entry-fits}
@@ -145,7 +145,9 @@ module _ (g : Setting) (es : List Entry) (i : ℕ) (d : Entry) (h : i < length e
       ≡ f (timeWord (getD es i d)) (readingWord (getD es i d)) (actionWord (getD es i d))
   at-entry f =
       let w = words-at es i d h in
-      let zeroth : getD (sheetOf g es) (placeOf i) 0 ≡ getD (entryWords es) (3 * i) 0 = let p : placeOf i + 0 ≡ placeOf i = omega arith in let q : 3 * i + 0 ≡ 3 * i = omega arith in rw (p, q) at (word-at 0) in
+      let p : placeOf i + 0 ≡ placeOf i = omega arith in
+      let q : 3 * i + 0 ≡ 3 * i = omega arith in
+      let zeroth : getD (sheetOf g es) (placeOf i) 0 ≡ getD (entryWords es) (3 * i) 0 = rw (p, q) at (word-at 0) in
       rw (zeroth, word-at 1, word-at 2, w .0, w .1, w .2) refl
 
 -- what stands where a list has no entry

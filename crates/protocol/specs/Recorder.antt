@@ -42,12 +42,12 @@ entriesIn xs = table (entryIn xs) 0 (countIn xs)
 abbrev pub mostNumbers : ℕ
 mostNumbers = numbersPerEntry * 4096
 
--- "12 when a field exceeds its width": the bits that document 01 gives it
+-- "12 when a field exceeds its width": as many bits as document 01 gives it
 unfoldable pub settingInWidth : Setting → Bool
 settingInWidth g =
     ltb (g .n) (2 ^ 8) && (ltb (g .f) (2 ^ 4) && (ltb (g .correct) (2 ^ 16) && (ltb (g .drift) (2 ^ 12) && ltb (g .tightness) (2 ^ 16))))
 
--- "or is set where 01 wants zero"
+-- "12 when a field exceeds its width or is set where 01 wants zero"
 unfoldable pub entryInWidth : Entry → Bool
 entryInWidth e =
     isTime (e .time .0) && (isTime (e .reading .0) && (ltb (e .head) (2 ^ 4) && (ltb (e .action) (2 ^ 4) && (ltb (e .sender) (2 ^ 4)

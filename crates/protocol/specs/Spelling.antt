@@ -1,5 +1,5 @@
 -- Document 01, "Words of a run sheet", from the fields to the words: how a setting and a list of entries are spelled.
-use mathlib.Core.List.{List, [], _∷_, _++_}
+use mathlib.Core.List.{List, [], _∷_}
 use Prim.Native.Nat.{ℕ, _+_, _*_, _^_}
 use Rattle.protocol.specs.Types.{Setting, Entry}
 

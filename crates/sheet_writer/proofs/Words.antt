@@ -3,9 +3,9 @@
 use mathlib.Core.Path.{_≡_, refl, sym, _∙_, ap, ap₂, subst}
 use mathlib.Core.Bool.{true}
 use mathlib.Core.List.{List, [], _∷_, _++_, append-assoc, append-nil}
-use Prim.Native.Nat.{ℕ, zero, suc, _+_, _*_, _≤_, _<_}
+use Prim.Native.Nat.{ℕ, _+_, _*_, _≤_, _<_}
 use native.Mathlib.Omega.{arith}
-use lib.ListN.{length, getD, set, take, drop, take-append-drop, length-append, length-set}
+use lib.ListN.{length, set, take, drop, take-append-drop, length-append}
 use lib.Seq.{length-take-le, drop-set-lt}
 use Rattle.protocol.specs.declared.Cause.{Cause}
 use Rattle.protocol.specs.declared.Entry.{Entry}
@@ -19,7 +19,7 @@ use Rattle.protocol.specs.Recorder.{entryIn, countIn, entriesIn, entryInWidth, 
 use Rattle.protocol.proofs.Tests.{all-at}
 use Rattle.protocol.proofs.Fits.{not-accepted}
 use Rattle.protocol.proofs.Tables.{length-table, table-at, table-last, three-more}
-use Rattle.protocol.proofs.Spelling.{EntryWidths, entry-widths, Writable, writable, length-entry-words, length-written, recorded}
+use Rattle.protocol.proofs.Spelling.{writable, length-entry-words, length-written, recorded}
 use Rattle.sheet_writer.specs.declared.EntryWords.{EntryWords}
 use Rattle.sheet_writer.specs.Buffer.{settingIn, AreWords, entriesBehind}
 
@@ -64,7 +64,9 @@ module _ (g : Setting) (xs out : List ℕ) where
   sheet-in : 2 ≤ length out → entriesBehind (settingIn out g) xs (countIn xs) ≡ sheetOf g (entriesIn xs) ++ drop (placeOf (countIn xs)) out
   unfolding sheetOf
   sheet-in two =
-      let rest = drop-set-lt (placeOf (countIn xs)) (set out 0 (firstWord g)) 1 (secondWord g) (omega arith) ∙ drop-set-lt (placeOf (countIn xs)) out 0 (firstWord g) (omega arith) in
+      let rest =
+      drop-set-lt (placeOf (countIn xs)) (set out 0 (firstWord g)) 1 (secondWord g) (omega arith)
+      ∙ drop-set-lt (placeOf (countIn xs)) out 0 (firstWord g) (omega arith) in
       ap₂ _++_ (ap (λ (l : List ℕ). l ++ entryWords (entriesIn xs)) (first-two out two)) rest
     where
       first-two : (l : List ℕ) → 2 ≤ length l → take 2 (settingIn l g) ≡ firstWord g ∷ secondWord g ∷ []

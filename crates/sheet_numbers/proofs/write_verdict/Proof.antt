@@ -1,9 +1,8 @@
 -- `write_verdict` meets its contract: its tests are those of `writeVerdict`, in the same order.
-use mathlib.Core.Path.{_≡_, sym, _∙_, ap₂}
-use mathlib.Core.Bool.{Bool, true, _&&_}
+use mathlib.Core.Path.{sym, _∙_, ap₂}
+use mathlib.Core.Bool.{_&&_}
 use native.Mathlib.Omega.{arith}
-use Rattle.protocol.specs.Base.{all}
-use Rattle.protocol.specs.Recorder.{settingInWidth, entryInWidth, writeVerdict}
+use Rattle.protocol.specs.Recorder.{writeVerdict}
 use Rattle.protocol.proofs.Tests.{and-left}
 use Rattle.protocol.proofs.Spelling.{setting-widths}
 use borrow.Author.Tests.{eq-eqb, le-ltb, lt-ltb, ne-eqb}

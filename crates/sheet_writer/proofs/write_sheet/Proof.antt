@@ -1,5 +1,5 @@
 -- `write_sheet` meets its contract: what passes the tests is written, what does not leaves the buffer as it was.
-use mathlib.Core.Path.{_≡_, sym, _∙_}
+use mathlib.Core.Path.{sym, _∙_}
 use denote.Ref.{now}
 use Rattle.protocol.specs.Recorder.{settingFrom}
 use Rattle.protocol.proofs.Spelling.{writable}
