@@ -1,38 +1,48 @@
 /* recorder N F CORRECT DRIFT TIGHTNESS: reads the entries of a run sheet as lines of six numbers (real time, reading, head,
  * action, sender, serial) and writes the sheet as big-endian words, as the programs replay and trace read it. */
+#include <ctype.h>
 #include <stdio.h>
 #include <stdlib.h>
 
 #include "daisarnica_sheet.h"
 
 /* One number more than there may be, so that too many are noticed. */
-static uint32_t numbers[DAISARNICA_SHEET_NUMBERS + 1];
+#define MOST (DAISARNICA_SHEET_NUMBERS + 1)
+
+static uint32_t numbers[MOST];
 static uint32_t sheet[DAISARNICA_SHEET_WORDS];
 
-/* A number too large for 32 bits is too large for its field as well, and so is this one. */
-static uint32_t cut(unsigned long long x)
+/* x with one digit more. What 32 bits cannot hold is too large for every field, and so is the largest number that they can. */
+static uint32_t with_digit(uint32_t x, int digit)
 {
-    return x > UINT32_MAX ? UINT32_MAX : (uint32_t)x;
+    if (!isdigit(digit)) {
+        fprintf(stderr, "not a number\n");
+        exit(2);
+    }
+    return x > (UINT32_MAX - 9) / 10 ? UINT32_MAX : 10 * x + (uint32_t)(digit - '0');
 }
 
 static uint32_t argument(const char *text)
 {
-    char *end;
-    unsigned long long x = strtoull(text, &end, 10);
+    uint32_t x = with_digit(0, (unsigned char)*text);
 
-    if (end == text || *end || *text == '-') {
-        fprintf(stderr, "not a number: %s\n", text);
-        exit(2);
-    }
-    return cut(x);
+    while (*++text) x = with_digit(x, (unsigned char)*text);
+    return x;
 }
 
 static size_t read_numbers(void)
 {
     size_t count = 0;
-    char text[32];
+    int c = getchar();
 
-    while (count < DAISARNICA_SHEET_NUMBERS + 1 && scanf("%31s", text) == 1) numbers[count++] = argument(text);
+    while (count < MOST) {
+        uint32_t x = 0;
+
+        while (isspace(c)) c = getchar();
+        if (c == EOF) break;
+        for (; c != EOF && !isspace(c); c = getchar()) x = with_digit(x, c);
+        numbers[count++] = x;
+    }
     return count;
 }
 
@@ -60,7 +70,7 @@ int main(int argc, char **argv)
         fprintf(stderr, "refused %lu\n", (unsigned long)cause);
         return 1;
     }
-    words = 2 + count / DAISARNICA_ENTRY_NUMBERS * 3;
+    words = 2 + 3 * (count / DAISARNICA_ENTRY_NUMBERS);
     for (i = 0; i < words; i++) write_word(sheet[i]);
     return fflush(stdout) ? 1 : 0;
 }

@@ -1,7 +1,7 @@
 /* daisarnica_sheet.h: whole run sheets for programs written in C: one is written from its fields, or replayed and judged.
  *
- * A call takes no other memory than what is lent to it and some 10 KB of stack, has no state between calls, and always
- * returns. It needs memcpy and memset and nothing else.
+ * A call takes no other memory than what is lent to it and at most some 10 KB of stack, has no state between calls, and
+ * always returns. It needs memcpy and memset and nothing else.
  *
  * Every input has an answer: what is against the rules is turned back with its cause, and the buffer is then left as it
  * was. What the caller owes: each pointer is to memory of its own that holds as many words as are said, and the parts of
