@@ -8,18 +8,45 @@ ghost use mathlib.Core.Path.{_≡_};
 ghost use Prim.Native.Nat.{_+_, _*_, _≤_, _<_};
 ghost use lib.ListN.{length};
 ghost use Rattle.protocol.specs.Base.{all};
-ghost use Rattle.protocol.specs.Recorder.{settingFrom, numbersPerEntry, entryFrom, entryIn, entriesIn, mostNumbers};
+ghost use Rattle.protocol.specs.Recorder.{settingFrom, numbersPerEntry, entryIn, entriesIn, mostNumbers};
 ghost use Rattle.protocol.specs.Recorder.{settingInWidth, entryInWidth, entryInRange, writeVerdict};
+ghost use Rattle.sheet_numbers.specs.Numbered.{numberedEntry};
 
 // "six numbers an entry"; "more than 24,576 numbers" are too many
 pub const NUMBERS_PER_ENTRY: usize = 6;
 
 const MOST_NUMBERS: usize = 24576;
 
-// Whether an entry, or each of them, passes the tests of cause 12 and of cause 6.
+// An entry's six numbers, as they are given.
+pub struct EntryNumbers {
+    pub time: u32,
+    pub reading: u32,
+    pub head: u32,
+    pub action: u32,
+    pub sender: u32,
+    pub serial: u32,
+}
+
+// Whether each entry passes the tests of cause 12 and of cause 6.
 struct Tested {
     in_width: bool,
     in_range: bool,
+}
+
+// "one list of six numbers an entry, in M1's order": entry i
+pub fn entry_in(numbers: &[u32], i: usize) -> EntryNumbers
+    requires { ⌜ (i < 4096) × (numbersPerEntry * i + 5 < length (now numbers)) ⌝ }
+    ensures { λ e. ⌜ numberedEntry e ≡ entryIn (now (numbers .entry)) i ⌝ }
+{
+    let at = NUMBERS_PER_ENTRY * i;
+    EntryNumbers {
+        time: numbers[at],
+        reading: numbers[at + 1],
+        head: numbers[at + 2],
+        action: numbers[at + 3],
+        sender: numbers[at + 4],
+        serial: numbers[at + 5],
+    }
 }
 
 // "12 when a field exceeds its width": n, f, correct bits, drift and tightness
@@ -31,44 +58,27 @@ fn setting_in_width(n: u32, f: u32, correct: u32, drift: u32, tightness: u32) ->
 
 // "12 when a field exceeds its width or is set where 01 wants zero": an entry's six. The last test takes fields within their widths, so the
 // parts are joined by `&&`.
-fn entry_in_width(time: u32, reading: u32, head: u32, action: u32, sender: u32, serial: u32) -> bool
-    ensures { λ r. ⌜ r ≡ entryInWidth (entryFrom time reading head action sender serial) ⌝ }
+fn entry_in_width(e: EntryNumbers) -> bool
+    ensures { λ r. ⌜ r ≡ entryInWidth (numberedEntry e) ⌝ }
 {
-    is_time(time)
-        && (is_time(reading)
-            && (head < 16
-                && (action < 16
-                    && (sender < 16
-                        && (serial < 16
-                            && zero_where_unused(action as u8, sender as u8, serial as u8))))))
+    is_time(e.time)
+        && (is_time(e.reading)
+            && (e.head < 16
+                && (e.action < 16
+                    && (e.sender < 16
+                        && (e.serial < 16
+                            && zero_where_unused(
+                                e.action as u8,
+                                e.sender as u8,
+                                e.serial as u8,
+                            ))))))
 }
 
 // "6 for an action above 9 or a head or sender not below n"
-fn entry_in_range(n: u32, head: u32, action: u32, sender: u32) -> bool
-    ensures { λ r. ⌜ r ≡ entryInRange n (entryFrom 0 0 head action sender 0) ⌝ }
+fn entry_in_range(n: u32, e: EntryNumbers) -> bool
+    ensures { λ r. ⌜ r ≡ entryInRange n (numberedEntry e) ⌝ }
 {
-    (action <= 9) & ((head < n) & (sender < n))
-}
-
-// Both tests of entry i.
-fn test_entry(n: u32, numbers: &[u32], i: usize) -> Tested
-    requires { ⌜ (length (now numbers) ≤ mostNumbers) × (numbersPerEntry * i + 5 < length (now numbers)) ⌝ }
-    ensures { λ t. ⌜ (t .«in_width» ≡ entryInWidth (entryIn (now (numbers .entry)) i)) × (t .«in_range» ≡ entryInRange n (entryIn (now (numbers .entry)) i)) ⌝ }
-{
-    let at = NUMBERS_PER_ENTRY * i;
-    let head = numbers[at + 2];
-    let action = numbers[at + 3];
-    let sender = numbers[at + 4];
-    let in_width = entry_in_width(
-        numbers[at],
-        numbers[at + 1],
-        head,
-        action,
-        sender,
-        numbers[at + 5],
-    );
-    let in_range = entry_in_range(n, head, action, sender);
-    Tested { in_width, in_range }
+    (e.action <= 9) & ((e.head < n) & (e.sender < n))
 }
 
 // Both tests of every entry, in one pass.
@@ -81,9 +91,9 @@ fn test_entries(n: u32, numbers: &[u32]) -> Tested
     let mut in_range = true;
     let mut i: usize = 0;
     while i < count {
-        let t = test_entry(n, numbers, i);
-        in_width = in_width & t.in_width;
-        in_range = in_range & t.in_range;
+        let e = entry_in(numbers, i);
+        in_width = in_width & entry_in_width(e);
+        in_range = in_range & entry_in_range(n, e);
         i += 1;
     }
     Tested { in_width, in_range }

@@ -1,13 +1,15 @@
 // A run sheet written from a recorder's numbers into a lent buffer: document 02, No. 1.
 use protocol::Verdict;
+use sheet_numbers::EntryNumbers;
 use sheet_numbers::NUMBERS_PER_ENTRY;
+use sheet_numbers::entry_in;
 use sheet_numbers::write_verdict;
 ghost use mathlib.Core.Path.{_≡_};
 ghost use mathlib.Core.Bool.{true};
-ghost use Prim.Native.Nat.{_+_, _*_, _^_, _≤_, _<_};
+ghost use Prim.Native.Nat.{_≤_};
 ghost use lib.ListN.{length};
-ghost use Rattle.protocol.specs.Spelling.{actionWord};
-ghost use Rattle.protocol.specs.Recorder.{settingFrom, numbersPerEntry, entryFrom, entryIn, countIn, settingInWidth, entryInWidth, writeSheet, Recorded};
+ghost use Rattle.protocol.specs.Recorder.{settingFrom, countIn, settingInWidth, entryInWidth, writeSheet, Recorded};
+ghost use Rattle.sheet_numbers.specs.Numbered.{numberedEntry};
 ghost use Rattle.sheet_writer.specs.Buffer.{settingIn, AreWords, AreWritable, entriesBehind};
 
 // 1 × 2²⁸ to 5 × 2²⁸: a word of each kind less what stands below the kind
@@ -38,28 +40,20 @@ fn write_setting(n: u32, f: u32, correct: u32, drift: u32, tightness: u32, out: 
     out[1] = KIND_2 + drift * 65536 + tightness;
 }
 
-// "kind 5 with bits 27–24 action, 23–20 head, 19–16 sender, 15–12 serial, 11–0 zero"
-fn action_word(head: u32, action: u32, sender: u32, serial: u32) -> u32
-    requires { ⌜ (head < 2 ^ 4) × (action < 2 ^ 4) × (sender < 2 ^ 4) × (serial < 2 ^ 4) ⌝ }
-    ensures { λ w. ⌜ w ≡ actionWord (entryFrom 0 0 head action sender serial) ⌝ }
+// "Each entry, three words: kind 3 with the real time, kind 4 with the head's reading (of the clock in use),
+// kind 5 with bits 27–24 action, 23–20 head, 19–16 sender, 15–12 serial, 11–0 zero"
+fn entry_words(e: EntryNumbers) -> EntryWords
+    requires { ⌜ entryInWidth (numberedEntry e) ≡ true ⌝ }
+    ensures { λ w. ⌜ AreWords (numberedEntry e) w ⌝ }
 {
-    KIND_5 + action * 16777216 + head * 1048576 + sender * 65536 + serial * 4096
-}
-
-// "Each entry, three words: kind 3 with the real time, kind 4 with the head's reading (of the clock in use)", and that of kind 5
-fn entry_words(numbers: &[u32], i: usize) -> EntryWords
-    requires { ⌜ (i < 4096) × (numbersPerEntry * i + 5 < length (now numbers)) × (entryInWidth (entryIn (now numbers) i) ≡ true) ⌝ }
-    ensures { λ w. ⌜ AreWords (entryIn (now (numbers .entry)) i) w ⌝ }
-{
-    let at = NUMBERS_PER_ENTRY * i;
-    let head = numbers[at + 2];
-    let action = numbers[at + 3];
-    let sender = numbers[at + 4];
-    let serial = numbers[at + 5];
     EntryWords {
-        time: KIND_3 + numbers[at],
-        reading: KIND_4 + numbers[at + 1],
-        action: action_word(head, action, sender, serial),
+        time: KIND_3 + e.time,
+        reading: KIND_4 + e.reading,
+        action: KIND_5
+            + e.action * 16777216
+            + e.head * 1048576
+            + e.sender * 65536
+            + e.serial * 4096,
     }
 }
 
@@ -71,7 +65,7 @@ fn write_entries(numbers: &[u32], out: &mut [u32])
     let count = numbers.len() / NUMBERS_PER_ENTRY;
     let mut i: usize = 0;
     while i < count {
-        let w = entry_words(numbers, i);
+        let w = entry_words(entry_in(numbers, i));
         let at = 2 + 3 * i;
         out[at] = w.time;
         out[at + 1] = w.reading;

@@ -25,23 +25,23 @@ zero-where-unused-requires c κs = search needs
 
 returns : tie.Need-returns
 unfolding entryInWidth
-returns c = simp (c .zero-where-unused .ensures, lt-ltb _ _ (c .before .if6 .taken), lt-ltb _ _ (c .before .before .if5 .taken), lt-ltb _ _ (c .before .before .before .if4 .taken), lt-ltb _ _ (c .before .before .before .before .if3 .taken), c .before .before .before .before .before .if2 .taken, ← c .before .before .before .before .before .before .is-time2 .ensures, c .before .before .before .before .before .before .before .if1 .taken, ← c .before .before .before .before .before .before .before .before .is-time .ensures)
+returns c = simp (c .zero-where-unused .ensures, lt-ltb _ _ (c .before .before .before .before .if6 .taken), lt-ltb _ _ (c .before .before .before .before .before .before .if5 .taken), lt-ltb _ _ (c .before .before .before .before .before .before .before .before .if4 .taken), lt-ltb _ _ (c .before .before .before .before .before .before .before .before .before .before .if3 .taken), c .before .before .before .before .before .before .before .before .before .before .before .before .if2 .taken, ← c .before .before .before .before .before .before .before .before .before .before .before .before .before .is-time2 .ensures, c .before .before .before .before .before .before .before .before .before .before .before .before .before .before .if1 .taken, ← c .before .before .before .before .before .before .before .before .before .before .before .before .before .before .before .is-time .ensures)
 
 returns-2 : tie.Need-returns-2
 unfolding entryInWidth
-returns-2 c = simp (le-ltb _ _ (c .if6 .left), lt-ltb _ _ (c .before .if5 .taken), lt-ltb _ _ (c .before .before .if4 .taken), lt-ltb _ _ (c .before .before .before .if3 .taken), c .before .before .before .before .if2 .taken, ← c .before .before .before .before .before .is-time2 .ensures, c .before .before .before .before .before .before .if1 .taken, ← c .before .before .before .before .before .before .before .is-time .ensures)
+returns-2 c = simp (le-ltb _ _ (c .if6 .left), lt-ltb _ _ (c .before .before .if5 .taken), lt-ltb _ _ (c .before .before .before .before .if4 .taken), lt-ltb _ _ (c .before .before .before .before .before .before .if3 .taken), c .before .before .before .before .before .before .before .before .if2 .taken, ← c .before .before .before .before .before .before .before .before .before .is-time2 .ensures, c .before .before .before .before .before .before .before .before .before .before .if1 .taken, ← c .before .before .before .before .before .before .before .before .before .before .before .is-time .ensures)
 
 returns-3 : tie.Need-returns-3
 unfolding entryInWidth
-returns-3 c = simp (le-ltb _ _ (c .if5 .left), lt-ltb _ _ (c .before .if4 .taken), lt-ltb _ _ (c .before .before .if3 .taken), c .before .before .before .if2 .taken, ← c .before .before .before .before .is-time2 .ensures, c .before .before .before .before .before .if1 .taken, ← c .before .before .before .before .before .before .is-time .ensures)
+returns-3 c = simp (le-ltb _ _ (c .if5 .left), lt-ltb _ _ (c .before .before .if4 .taken), lt-ltb _ _ (c .before .before .before .before .if3 .taken), c .before .before .before .before .before .before .if2 .taken, ← c .before .before .before .before .before .before .before .is-time2 .ensures, c .before .before .before .before .before .before .before .before .if1 .taken, ← c .before .before .before .before .before .before .before .before .before .is-time .ensures)
 
 returns-4 : tie.Need-returns-4
 unfolding entryInWidth
-returns-4 c = simp (le-ltb _ _ (c .if4 .left), lt-ltb _ _ (c .before .if3 .taken), c .before .before .if2 .taken, ← c .before .before .before .is-time2 .ensures, c .before .before .before .before .if1 .taken, ← c .before .before .before .before .before .is-time .ensures)
+returns-4 c = simp (le-ltb _ _ (c .if4 .left), lt-ltb _ _ (c .before .before .if3 .taken), c .before .before .before .before .if2 .taken, ← c .before .before .before .before .before .is-time2 .ensures, c .before .before .before .before .before .before .if1 .taken, ← c .before .before .before .before .before .before .before .is-time .ensures)
 
 returns-5 : tie.Need-returns-5
 unfolding entryInWidth
-returns-5 c = simp (le-ltb _ _ (c .if3 .left), c .before .if2 .taken, ← c .before .before .is-time2 .ensures, c .before .before .before .if1 .taken, ← c .before .before .before .before .is-time .ensures)
+returns-5 c = simp (le-ltb _ _ (c .if3 .left), c .before .before .if2 .taken, ← c .before .before .before .is-time2 .ensures, c .before .before .before .before .if1 .taken, ← c .before .before .before .before .before .is-time .ensures)
 
 returns-6 : tie.Need-returns-6
 unfolding entryInWidth

@@ -1,5 +1,5 @@
 -- One entry more at each turn.
-use mathlib.Core.Path.{_≡_, refl}
+use mathlib.Core.Path.{_≡_, refl, _∙_, ap}
 use Prim.Native.Nat.{_-_, _≤_}
 use denote.Ref.{now}
 use Rattle.protocol.specs.Base.{all, table}
@@ -20,8 +20,14 @@ abbrev μ-loop : tie.MeasureT-loop
 loop-holds : tie.Need-loop-holds Inv-loop μ-loop
 loop-holds c = (omega arith, refl, refl)
 
-test-entry-requires : tie.Need-test-entry-requires Inv-loop μ-loop
-test-entry-requires c κs = search needs
+entry-in-requires : tie.Need-entry-in-requires Inv-loop μ-loop
+entry-in-requires c κs = search needs
+
+entry-in-width-requires : tie.Need-entry-in-width-requires Inv-loop μ-loop
+entry-in-width-requires c κs = search needs
+
+entry-in-range-requires : tie.Need-entry-in-range-requires Inv-loop μ-loop
+entry-in-range-requires c κs = search needs
 
 add-i : tie.Need-add-i Inv-loop μ-loop
 add-i c = search needs
@@ -33,8 +39,13 @@ loop-again : tie.Need-loop-again Inv-loop μ-loop
 loop-again c =
     let L = c .before .before .before .before .loop in
     let A = c .before .before .before .before .before .before .args in
-    let tests = c .before .before .test-entry .ensures in
-    (omega arith, all-more entryInWidth (entryIn (now (A .numbers))) (L .i) _ _ (L .inv .1) (tests .0), all-more (entryInRange (A .n)) (entryIn (now (A .numbers))) (L .i) _ _ (L .inv .2) (tests .1))
+    let is = c .before .before .entry-in .ensures in
+    let width = c .before .entry-in-width .ensures ∙ ap entryInWidth is in
+    let range = c .entry-in-range .ensures ∙ ap (entryInRange (A .n)) is in (
+      omega arith,
+      all-more entryInWidth (entryIn (now (A .numbers))) (L .i) _ _ (L .inv .1) width,
+      all-more (entryInRange (A .n)) (entryIn (now (A .numbers))) (L .i) _ _ (L .inv .2) range,
+    )
 
 returns : tie.Need-returns Inv-loop μ-loop
 returns c =
@@ -45,4 +56,14 @@ returns c =
 pub test-entries-spec : {M : Type 1} → statement M
 test-entries-spec =
     tie.close
-    (tie.spec Inv-loop μ-loop loop-holds test-entry-requires add-i loop-less loop-again returns)
+    (tie.spec
+    Inv-loop
+    μ-loop
+    loop-holds
+    entry-in-requires
+    entry-in-width-requires
+    entry-in-range-requires
+    add-i
+    loop-less
+    loop-again
+    returns)

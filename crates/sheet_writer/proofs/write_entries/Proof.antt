@@ -1,10 +1,11 @@
 -- One entry's words more at each turn; the rest of the buffer stays.
-use mathlib.Core.Path.{_≡_, refl}
+use mathlib.Core.Path.{_≡_, refl, _∙_, ap, subst}
 use Prim.Native.Nat.{_-_, _≤_}
 use denote.Ref.{now}
 use lib.ListN.{length, length-set}
-use Rattle.protocol.specs.Recorder.{countIn}
-use Rattle.sheet_writer.specs.Buffer.{entriesBehind}
+use Rattle.protocol.specs.declared.Entry.{Entry}
+use Rattle.protocol.specs.Recorder.{countIn, entryInWidth}
+use Rattle.sheet_writer.specs.Buffer.{AreWords, entriesBehind}
 use Rattle.sheet_writer.proofs.Words.{one-of-them, no-entries, next-entry}
 use native.Mathlib.Omega.{arith}
 use borrow.Author.Needs.{needs}
@@ -20,10 +21,13 @@ abbrev μ-loop : tie.MeasureT-loop
 loop-holds : tie.Need-loop-holds Inv-loop μ-loop
 loop-holds c = let A = c .before .before .args in (omega arith, refl, no-entries (now (A .out)) (now (A .numbers)))
 
+entry-in-requires : tie.Need-entry-in-requires Inv-loop μ-loop
+entry-in-requires c κs = (omega arith, omega arith)
+
 entry-words-requires : tie.Need-entry-words-requires Inv-loop μ-loop
 entry-words-requires c κs =
-    let A = c .before .before .before .before .args in
-    (omega arith, omega arith, one-of-them (now (A .numbers)) (c .before .loop .i) (c .before .before .before .before .pre .1) (c .loop-test .taken))
+    let A = c .before .before .before .before .before .args in
+    ap entryInWidth (c .entry-in .ensures) ∙ one-of-them (now (A .numbers)) (c .before .before .loop .i) (c .before .before .before .before .before .pre .1) (c .before .loop-test .taken)
 
 mul-at : tie.Need-mul-at Inv-loop μ-loop
 mul-at c = search needs
@@ -63,11 +67,12 @@ loop-less c = search needs
 
 loop-again : tie.Need-loop-again Inv-loop μ-loop
 loop-again c =
-    let A = c .before .before .before .before .before .args in
-    let L = c .before .before .loop in (
+    let A = c .before .before .before .before .before .before .args in
+    let L = c .before .before .before .loop in
+    let words = subst (λ (e : Entry). AreWords e (c .entry-words .result)) (c .before .entry-in .ensures) (c .entry-words .ensures) in (
       omega arith,
       simp length-set (L .inv .1),
-      next-entry (now (A .out)) (L .out) (now (A .numbers)) (L .i) _ (c .before .loop-test .taken) (c .before .before .before .before .before .pre .2) (L .inv .2) (c .entry-words .ensures),
+      next-entry (now (A .out)) (L .out) (now (A .numbers)) (L .i) _ (c .before .before .loop-test .taken) (c .before .before .before .before .before .before .pre .2) (L .inv .2) words,
     )
 
 same-length : tie.Need-same-length Inv-loop μ-loop
@@ -84,6 +89,7 @@ write-entries-spec =
     Inv-loop
     μ-loop
     loop-holds
+    entry-in-requires
     entry-words-requires
     mul-at
     add-at
