@@ -1,4 +1,5 @@
-//! A proved program, run as a child of the program that compares it.
+//! A proved program, run as a child of the program that compares it; and what the
+//! comparing programs are asked on the command line.
 
 use std::io::{Read, Write};
 use std::process::{Command, Stdio};
@@ -30,4 +31,12 @@ pub fn arguments() -> Option<(String, u64, u64)> {
     let seed = arguments.next()?.parse().ok()?;
     let count = arguments.next()?.parse().ok()?;
     Some((program, seed, count))
+}
+
+/// The seed and the count, from the command line.
+pub fn seed_and_count() -> Option<(u64, u64)> {
+    let mut arguments = std::env::args().skip(1);
+    let seed = arguments.next()?.parse().ok()?;
+    let count = arguments.next()?.parse().ok()?;
+    Some((seed, count))
 }

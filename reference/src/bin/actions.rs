@@ -6,6 +6,7 @@
 use std::collections::BTreeMap;
 use std::process::ExitCode;
 
+use reference::ask::seed_and_count;
 use reference::board::{edges, same_counter, Both, InputNumbers};
 use reference::random::Random;
 use reference::record::Record;
@@ -157,10 +158,7 @@ fn sequence(random: &mut Random, tally: &mut Tally) -> Result<(), String> {
 }
 
 fn main() -> ExitCode {
-    let mut arguments = std::env::args()
-        .skip(1)
-        .filter_map(|a| a.parse::<u64>().ok());
-    let (Some(seed), Some(count)) = (arguments.next(), arguments.next()) else {
+    let Some((seed, count)) = seed_and_count() else {
         eprintln!("usage: actions SEED COUNT");
         return ExitCode::from(2);
     };

@@ -5,6 +5,7 @@
 
 use std::process::ExitCode;
 
+use reference::ask::seed_and_count;
 use reference::generate::generate;
 use reference::random::Random;
 use reference::recorder::record;
@@ -253,10 +254,7 @@ fn compare(call: &Call) -> Result<u32, String> {
 }
 
 fn main() -> ExitCode {
-    let mut arguments = std::env::args()
-        .skip(1)
-        .filter_map(|a| a.parse::<u64>().ok());
-    let (Some(seed), Some(count)) = (arguments.next(), arguments.next()) else {
+    let Some((seed, count)) = seed_and_count() else {
         eprintln!("usage: recordings SEED COUNT");
         return ExitCode::from(2);
     };
