@@ -1,5 +1,5 @@
 // What a value of an enum stands for as a number. A reading or a number that may be missing: whether it is there, and its value,
-// 0 where there is none; a cause: document 01's number for it.
+// 0 where there is none; a cause: its number in document 01's table, which document 02 adds to.
 use protocol::Cause;
 use protocol::OptNumber;
 use protocol::OptReading;

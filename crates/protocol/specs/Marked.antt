@@ -36,8 +36,8 @@ abbrev pub replayed : Replay → List ℕ
 replayed x = replayedNumbers (x .answer) ++ x .buffer
 
 -- answer and buffer of the writer, as numbers
-abbrev pub written : Written → List ℕ
-written x = verdictNumber (x .verdict) ∷ x .buffer
+abbrev pub writtenNumbers : Written → List ℕ
+writtenNumbers x = verdictNumber (x .verdict) ∷ x .buffer
 
 -- what the look of entry i shows, in decimal
 abbrev pub clockAfter : Setting → Entry → Run → List ℕ
@@ -93,5 +93,5 @@ marked =
     ∷ gives (replayed (replay (m1 0x2064000A) (replicate 5 1))) (5 ∷ 0 ∷ 1 ∷ 1 ∷ 1 ∷ 1 ∷ 1 ∷ [])
     -- document 02, No. 1: M1 written from its fields, n = 2, f = 0, heads 0 and 1 correct, 100 parts per million, 10 microseconds,
     -- into a buffer of one word more, which is kept; and M1's own words
-    ∷ gives (written (writeSheet (settingFrom 2 0 3 100 10) m1Numbers (replicate 66 1))) (0 ∷ m1 0x2064000A ++ (1 ∷ []))
+    ∷ gives (writtenNumbers (writeSheet (settingFrom 2 0 3 100 10) m1Numbers (replicate 66 1))) (0 ∷ m1 0x2064000A ++ (1 ∷ []))
     ∷ []

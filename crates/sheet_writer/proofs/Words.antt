@@ -21,7 +21,7 @@ use Rattle.protocol.proofs.Fits.{not-accepted}
 use Rattle.protocol.proofs.Tables.{length-table, table-at, table-last, three-more}
 use Rattle.protocol.proofs.Spelling.{writable, length-entry-words, length-written, recorded}
 use Rattle.sheet_writer.specs.declared.EntryWords.{EntryWords}
-use Rattle.sheet_writer.specs.Buffer.{settingIn, AreWords, entriesBehind}
+use Rattle.sheet_writer.specs.Buffer.{settingInFront, AreEntryWords, entriesBehind}
 
 -- ONE ENTRY
 
@@ -42,7 +42,7 @@ unfolding entryWords
 no-entries out xs = sym (ap (λ (l : List ℕ). l ++ drop 2 out) (append-nil (take 2 out)) ∙ take-append-drop 2 out)
 
 pub next-entry : (before out xs : List ℕ) (i : ℕ) (w : EntryWords) → i < countIn xs → placeOf (countIn xs) ≤ length before
-    → out ≡ entriesBehind before xs i → AreWords (entryIn xs i) w
+    → out ≡ entriesBehind before xs i → AreEntryWords (entryIn xs i) w
     → set (set (set out (placeOf i) (w .time)) (placeOf i + 1) (w .reading)) (placeOf i + 2) (w .action) ≡ entriesBehind before xs (i + 1)
 next-entry before out xs i w h room was is =
     let front = take 2 before ++ entryWords (table (entryIn xs) 0 i) in
@@ -61,7 +61,7 @@ next-entry before out xs i w h room was is =
 
 module _ (g : Setting) (xs out : List ℕ) where
   -- the first two words, and the entries behind them
-  sheet-in : 2 ≤ length out → entriesBehind (settingIn out g) xs (countIn xs) ≡ sheetOf g (entriesIn xs) ++ drop (placeOf (countIn xs)) out
+  sheet-in : 2 ≤ length out → entriesBehind (settingInFront out g) xs (countIn xs) ≡ sheetOf g (entriesIn xs) ++ drop (placeOf (countIn xs)) out
   unfolding sheetOf
   sheet-in two =
       let rest =
@@ -69,12 +69,12 @@ module _ (g : Setting) (xs out : List ℕ) where
       ∙ drop-set-lt (placeOf (countIn xs)) out 0 (firstWord g) (omega arith) in
       ap₂ _++_ (ap (λ (l : List ℕ). l ++ entryWords (entriesIn xs)) (first-two out two)) rest
     where
-      first-two : (l : List ℕ) → 2 ≤ length l → take 2 (settingIn l g) ≡ firstWord g ∷ secondWord g ∷ []
+      first-two : (l : List ℕ) → 2 ≤ length l → take 2 (settingInFront l g) ≡ firstWord g ∷ secondWord g ∷ []
       first-two [] h = absurd (omega arith)
       first-two (u ∷ []) h = absurd (omega arith)
       first-two (u ∷ v ∷ l) h = refl
 
-  pub wrote : (front after : List ℕ) → writeVerdict g xs (length out) ≡ Accepted → front ≡ settingIn out g → after ≡ entriesBehind front xs (countIn xs)
+  pub wrote : (front after : List ℕ) → writeVerdict g xs (length out) ≡ Accepted → front ≡ settingInFront out g → after ≡ entriesBehind front xs (countIn xs)
       → (Accepted ≡ writeSheet g xs out .verdict) × (after ≡ writeSheet g xs out .buffer) × Recorded g xs Accepted after
   unfolding writeSheet
   wrote front after e setting entries =

@@ -13,12 +13,12 @@ use Rattle.protocol.specs.Recorder.{entryIn, countIn, entriesIn, entryInWidth}
 use Rattle.sheet_writer.specs.declared.EntryWords.{EntryWords}
 
 -- a buffer with the words of a setting as its first two, all else as it was
-abbrev pub settingIn : List ℕ → Setting → List ℕ
-settingIn out g = set (set out 0 (firstWord g)) 1 (secondWord g)
+abbrev pub settingInFront : List ℕ → Setting → List ℕ
+settingInFront out g = set (set out 0 (firstWord g)) 1 (secondWord g)
 
 -- an entry's three words
-abbrev pub AreWords : Entry → EntryWords → Type 0
-AreWords e w = (w .time ≡ timeWord e) × (w .reading ≡ readingWord e) × (w .action ≡ actionWord e)
+abbrev pub AreEntryWords : Entry → EntryWords → Type 0
+AreEntryWords e w = (w .time ≡ timeWord e) × (w .reading ≡ readingWord e) × (w .action ≡ actionWord e)
 
 -- entries that fit their words, for which a buffer of so many words has room
 abbrev pub AreWritable : List ℕ → ℕ → Type 0

@@ -10,7 +10,7 @@ ghost use Prim.Native.Nat.{_≤_};
 ghost use lib.ListN.{length};
 ghost use Rattle.protocol.specs.Recorder.{settingFrom, countIn, settingInWidth, entryInWidth, writeSheet, Recorded};
 ghost use Rattle.sheet_numbers.specs.Numbered.{numberedEntry};
-ghost use Rattle.sheet_writer.specs.Buffer.{settingIn, AreWords, AreWritable, entriesBehind};
+ghost use Rattle.sheet_writer.specs.Buffer.{settingInFront, AreEntryWords, AreWritable, entriesBehind};
 
 // 1 × 2²⁸ to 5 × 2²⁸: a word of each kind less what stands below the kind
 const KIND_1: u32 = 268435456;
@@ -34,7 +34,7 @@ struct EntryWords {
 // "Second word, kind 2: bits 27–16 drift in parts per million, 15–0 tightness in microseconds"
 fn write_setting(n: u32, f: u32, correct: u32, drift: u32, tightness: u32, out: &mut [u32])
     requires { ⌜ (settingInWidth (settingFrom n f correct drift tightness) ≡ true) × (2 ≤ length (now out)) ⌝ }
-    ensures { λ _. ⌜ now (out .exit) ≡ settingIn (now (out .entry)) (settingFrom n f correct drift tightness) ⌝ }
+    ensures { λ _. ⌜ now (out .exit) ≡ settingInFront (now (out .entry)) (settingFrom n f correct drift tightness) ⌝ }
 {
     out[0] = KIND_1 + n * 1048576 + f * 65536 + correct;
     out[1] = KIND_2 + drift * 65536 + tightness;
@@ -44,7 +44,7 @@ fn write_setting(n: u32, f: u32, correct: u32, drift: u32, tightness: u32, out: 
 // kind 5 with bits 27–24 action, 23–20 head, 19–16 sender, 15–12 serial, 11–0 zero"
 fn entry_words(e: EntryNumbers) -> EntryWords
     requires { ⌜ entryInWidth (numberedEntry e) ≡ true ⌝ }
-    ensures { λ w. ⌜ AreWords (numberedEntry e) w ⌝ }
+    ensures { λ w. ⌜ AreEntryWords (numberedEntry e) w ⌝ }
 {
     EntryWords {
         time: KIND_3 + e.time,

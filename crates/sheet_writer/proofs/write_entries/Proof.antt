@@ -5,7 +5,7 @@ use denote.Ref.{now}
 use lib.ListN.{length, length-set}
 use Rattle.protocol.specs.declared.Entry.{Entry}
 use Rattle.protocol.specs.Recorder.{countIn, entryInWidth}
-use Rattle.sheet_writer.specs.Buffer.{AreWords, entriesBehind}
+use Rattle.sheet_writer.specs.Buffer.{AreEntryWords, entriesBehind}
 use Rattle.sheet_writer.proofs.Words.{one-of-them, no-entries, next-entry}
 use native.Mathlib.Omega.{arith}
 use borrow.Author.Needs.{needs}
@@ -69,7 +69,7 @@ loop-again : tie.Need-loop-again Inv-loop μ-loop
 loop-again c =
     let A = c .before .before .before .before .before .before .args in
     let L = c .before .before .before .loop in
-    let words = subst (λ (e : Entry). AreWords e (c .entry-words .result)) (c .before .entry-in .ensures) (c .entry-words .ensures) in (
+    let words = subst (λ (e : Entry). AreEntryWords e (c .entry-words .result)) (c .before .entry-in .ensures) (c .entry-words .ensures) in (
       omega arith,
       simp length-set (L .inv .1),
       next-entry (now (A .out)) (L .out) (now (A .numbers)) (L .i) _ (c .before .before .loop-test .taken) (c .before .before .before .before .before .before .pre .2) (L .inv .2) words,
