@@ -4,52 +4,34 @@ use mathlib.Core.Path.{_≡_, refl, sym, _∙_, ap, ap₂}
 use mathlib.Core.Bool.{Bool, true, false, _&&_, _||_}
 use mathlib.Core.List.{List}
 use mathlib.Core.Logic.{_≢_}
-use Prim.Native.Nat.{ℕ, zero, suc, _≤_, _<_}
-use native.Mathlib.Omega.{arith}
+use Prim.Native.Nat.{ℕ, _≤_, _<_}
 use lib.Dec.{leb, eqb}
 use lib.ListN.{getD}
 use borrow.Author.Tests.{lt-ltb, le-ltb, ne-eqb, eqb-true, leb-true}
 use Rattle.protocol.specs.declared.HeadRecord.{HeadRecord}
 use Rattle.protocol.specs.declared.Input.{Input}
-use Rattle.protocol.specs.declared.Action.{Action}
-use Rattle.protocol.specs.declared.Action.the-variants.{Look}
 use Rattle.protocol.specs.declared.Stepped.{Stepped}
 use Rattle.protocol.specs.declared.Verdict.the-variants.{Accepted, Refused}
 use Rattle.protocol.specs.declared.Cause.the-variants.{BadEntry, ReadingFell, ActionClosed, BadRecord}
 use Rattle.protocol.specs.Words.{hasSerial}
 use Rattle.protocol.specs.Record.{reading, marksNumber, recordInRange}
-use Rattle.protocol.specs.Step.{number, isOwnFrame, isClosed, closedBy, takeAction, withLast, actionsOf, actionOf, inputFits, step}
+use Rattle.protocol.specs.Step.{isClosed, closedBy, takeAction, withLast, actionOf, inputFits, step}
 use Rattle.protocol.specs.Row.{recordIn, rowFits, rowInRange}
 use Rattle.protocol.specs.Board.{rowStep}
 use Rattle.protocol.proofs.Tests.{absurd-bool, and-left, and-right}
 use Rattle.protocol.proofs.Effects.{effect-accepted}
-use Rattle.head_open.proofs.Marks.{closed-by-marks}
+use Rattle.head_open.proofs.Marks.{closed-by-marks, made-of}
 
 -- WHEN AN ACTION IS CLOSED, by the caller's numbers
 
 abbrev closedAt : Input → ℕ → ℕ → ℕ → Bool
 closedAt i own marks k = hasSerial k && eqb (i .sender) own || closedBy k marks
 
-module _ (i : Input) (r : HeadRecord) where
-  abbrev action : ℕ → Action
-  action k = getD (actionsOf i) k Look
-
-  by-marks : (k : ℕ) → isClosed r (action k) ≡ (isOwnFrame r (action k) || closedBy (number (action k)) (marksNumber r))
-  unfolding isClosed
-  by-marks k = ap (λ (b : Bool). isOwnFrame r (action k) || b) (closed-by-marks r (action k))
-
-  closed-at : (k : ℕ) → k ≤ 9 → isClosed r (action k) ≡ closedAt i (r .own) (marksNumber r) k
-  closed-at zero h = by-marks 0
-  closed-at (suc zero) h = by-marks 1
-  closed-at (suc (suc zero)) h = by-marks 2
-  closed-at (suc (suc (suc zero))) h = by-marks 3
-  closed-at (suc (suc (suc (suc zero)))) h = by-marks 4
-  closed-at (suc (suc (suc (suc (suc zero))))) h = by-marks 5
-  closed-at (suc (suc (suc (suc (suc (suc zero)))))) h = by-marks 6
-  closed-at (suc (suc (suc (suc (suc (suc (suc zero))))))) h = by-marks 7
-  closed-at (suc (suc (suc (suc (suc (suc (suc (suc zero)))))))) h = by-marks 8
-  closed-at (suc (suc (suc (suc (suc (suc (suc (suc (suc zero))))))))) h = by-marks 9
-  closed-at (suc (suc (suc (suc (suc (suc (suc (suc (suc (suc k)))))))))) h = absurd (omega arith)
+closed-at : (i : Input) (r : HeadRecord) → i .action ≤ 9 → isClosed r (actionOf i) ≡ closedAt i (r .own) (marksNumber r) (i .action)
+unfolding isClosed
+closed-at i r h =
+    let made = made-of r i h in
+    ap₂ _||_ (made .1) (closed-by-marks r (actionOf i) ∙ ap (λ (k : ℕ). closedBy k (marksNumber r)) (made .0))
 
 -- by the tests made
 module _ (i : Input) (own marks : ℕ) where
@@ -105,7 +87,7 @@ module _ (w : List ℕ) (i : Input) where
       closed-is : isClosed (recordIn w) (actionOf i) ≡ closedAt i (getD w 9 0) (getD w 1 0) (i .action)
       unfolding actionOf inputFits recordIn
       closed-is =
-          closed-at i (recordIn w) (i .action) (leb-true (i .action) 9 (and-left (leb (i .action) 9) _ f))
+          closed-at i (recordIn w) (leb-true (i .action) 9 (and-left (leb (i .action) 9) _ f))
           ∙ ap (λ (m : ℕ). closedAt i (getD w 9 0) m (i .action)) (sym marks-are)
 
       module _ (rises : getD w 0 0 ≤ i .reading) (b : Bool) (is : b ≡ closedAt i (getD w 9 0) (getD w 1 0) (i .action)) where

@@ -1,6 +1,6 @@
 -- A head's marks as one number: which marks it has, what one more makes of it, and which actions it closes.
 use mathlib.Core.Path.{_≡_, refl, sym, ap, _∙_}
-use mathlib.Core.Bool.{Bool, true, false, cond}
+use mathlib.Core.Bool.{Bool, true, false, cond, _&&_}
 use mathlib.Core.List.{List, [], _∷_}
 use mathlib.Core.Logic.{_≢_}
 use Prim.Native.Nat.{ℕ, zero, suc, _+_, _*_, _/_, _%_, _^_, _≤_, _<_}
@@ -10,10 +10,12 @@ use lib.Dec.{eqb, lit<}
 use lib.ListN.{length, getD, set}
 use Rattle.protocol.specs.declared.Reading.{Reading}
 use Rattle.protocol.specs.declared.HeadRecord.{HeadRecord}
+use Rattle.protocol.specs.declared.Input.{Input}
 use Rattle.protocol.specs.declared.Action.{Action}
 use Rattle.protocol.specs.declared.Action.the-variants.{Look, StartSent, StartDelivered, StartConfirmed, VoteTurn, VoteDelivered, VoteClose, AdjustTurn, AdjustDelivered, AdjustClose}
+use Rattle.protocol.specs.Words.{hasSerial}
 use Rattle.protocol.specs.Record.{isNumber, markNumber, marksNumber}
-use Rattle.protocol.specs.Step.{takeTurn, close, choose, withMarks, withVote, withAdjust, number, isClosedByMarks, hasMark, closedBy}
+use Rattle.protocol.specs.Step.{takeTurn, close, choose, withMarks, withVote, withAdjust, number, isOwnFrame, isClosedByMarks, hasMark, closedBy, actionsOf, actionOf}
 use Rattle.protocol.proofs.Tests.{cases}
 
 -- ANY MARKS: the first has weight 1, each further one twice the weight of the one before
@@ -153,6 +155,26 @@ closed-by-marks r VoteClose = rw (has-vote-closed r) refl
 closed-by-marks r AdjustTurn = rw (has-vote-closed r, has-adjust-turn r, has-adjust-closed r) refl
 closed-by-marks r (AdjustDelivered p k c x) = refl
 closed-by-marks r AdjustClose = rw (has-vote-closed r, has-adjust-closed r) refl
+
+-- an action made from a caller's numbers: its number, and whether its sender is the head itself
+made : (r : HeadRecord) (i : Input) (k : ℕ) → k ≤ 9
+    → (number (getD (actionsOf i) k Look) ≡ k) × (isOwnFrame r (getD (actionsOf i) k Look) ≡ (hasSerial k && eqb (i .sender) (r .own)))
+made r i zero h = (refl, refl)
+made r i (suc zero) h = (refl, refl)
+made r i (suc (suc zero)) h = (refl, refl)
+made r i (suc (suc (suc zero))) h = (refl, refl)
+made r i (suc (suc (suc (suc zero)))) h = (refl, refl)
+made r i (suc (suc (suc (suc (suc zero))))) h = (refl, refl)
+made r i (suc (suc (suc (suc (suc (suc zero)))))) h = (refl, refl)
+made r i (suc (suc (suc (suc (suc (suc (suc zero))))))) h = (refl, refl)
+made r i (suc (suc (suc (suc (suc (suc (suc (suc zero)))))))) h = (refl, refl)
+made r i (suc (suc (suc (suc (suc (suc (suc (suc (suc zero))))))))) h = (refl, refl)
+made r i (suc (suc (suc (suc (suc (suc (suc (suc (suc (suc k)))))))))) h = absurd (omega arith)
+
+pub made-of : (r : HeadRecord) (i : Input) → i .action ≤ 9
+    → (number (actionOf i) ≡ i .action) × (isOwnFrame r (actionOf i) ≡ (hasSerial (i .action) && eqb (i .sender) (r .own)))
+unfolding actionOf
+made-of r i h = made r i (i .action) h
 
 -- no other action is closed by the marks
 pub not-closed : (a m : ℕ) → a ≢ 1 → a ≢ 3 → a ≢ 4 → a ≢ 6 → a ≢ 7 → a ≢ 9 → false ≡ closedBy a m

@@ -10,6 +10,7 @@ use protocol::Setting;
 use protocol::Verdict;
 use sheet_entry::entry_verdict;
 use sheet_entry::take_entry;
+use sheet_open::open_actions;
 use sheet_state::fresh_heads;
 use sheet_words::entry_count;
 use sheet_words::read_entry;
@@ -71,6 +72,7 @@ pub fn run_entries(
     requires { ⌜ (2 + 3 * count ≤ length (now sheet)) × (length (now sheet) ≤ 12290) × (firstWordFits (getD (now sheet) 0 0) ≡ true) × (g ≡ settingAt (now sheet)) × (now heads ≡ headRows g []) ⌝ }
     ensures { λ j. ⌜ (until ≡ 0 → Passes g (runOf (now (sheet .entry)) count) j (now (heads .exit))) × TellsWhere g (runOf (now (sheet .entry)) count) until (now (entries .exit)) ⌝ }
 {
+    let table = open_actions();
     let mut choices = [0u8; 512];
     let mut carried = [0u32; 512];
     let mut received = [0u16; 512];
@@ -84,7 +86,7 @@ pub fn run_entries(
     while i < count {
         let r = read_entry(sheet, g.n, i);
         let e = r.entry;
-        let v = entry_verdict(e, r.fits, time, heads);
+        let v = entry_verdict(e, r.fits, time, &table, heads);
         match v {
             Verdict::Refused(c) => return Judged::Unjudged(c, 2 + 3 * i),
             Verdict::Accepted => {

@@ -1,4 +1,4 @@
--- Document 01 in definitions, in its order; from document 02, Recorder. Base and Types serve all the others.
+-- Document 01 in definitions, in its order; from document 02, Recorder and OpenTable. Base and Types serve all the others.
 pub mod Base
 pub mod Types
 pub mod Words
@@ -16,4 +16,5 @@ pub mod Claim
 pub mod Program
 pub mod Board
 pub mod Recorder
+pub mod OpenTable
 pub mod Marked

@@ -1,6 +1,4 @@
 // One entry of a sheet: the verdict on it, and what an accepted one does to its head's row.
-use head_open::closed_by;
-use head_open::has_mark;
 use head_step::effect;
 use protocol::Cause;
 use protocol::Entry;
@@ -9,36 +7,30 @@ use protocol::Row;
 use protocol::Sent;
 use protocol::Verdict;
 use protocol::at;
-use protocol::mark;
+use sheet_open::is_open;
 use sheet_state::frame_index;
 use sheet_state::head_index;
 ghost use mathlib.Core.Path.{_≡_};
+ghost use mathlib.Core.Bool.{true};
 ghost use mathlib.Core.List.{List, _∷_};
 ghost use Prim.Native.Nat.{ℕ, _-_};
 ghost use Rattle.protocol.specs.declared.Verdict.the-variants.{Accepted};
 ghost use Rattle.protocol.specs.Words.{settingAt, entryAt, entryFitsAt};
 ghost use Rattle.protocol.specs.Row.{sentOf};
 ghost use Rattle.protocol.specs.Run.{History, frameOf, inputOf, lastTime};
+ghost use Rattle.protocol.specs.OpenTable.{openActions};
 ghost use Rattle.sheet_state.specs.Arrays.{headRows, answerAt, eventAt, Stands, Carries};
-ghost use Rattle.sheet_entry.specs.Open.{isOpen};
+ghost use Rattle.sheet_open.specs.Open.{IsInTable};
 
-// Whether the frame that an entry delivers, if any, was sent, and its action is not closed.
-fn is_open(e: Entry, heads: &[Row; 16]) -> bool
-    ensures { λ b. ⌜ ((ws : List ℕ) (i : ℕ) (s : History) → Stands ws i s (now (heads .entry)) → e ≡ entryAt ws i
-        → b ≡ isOpen (settingAt ws) s e) ⌝ }
-{
-    let a = e.action;
-    let p = head_index(e.sender);
-    match a {
-        2 => has_mark(heads[p][at::MARKS], mark::START_SENT),
-        5 => ((e.serial as u32) < heads[p][at::VOTES_SENT]) & (e.sender != e.head),
-        8 => ((e.serial as u32) < heads[p][at::ADJUSTS_SENT]) & (e.sender != e.head),
-        _ => !closed_by(a as u32, heads[head_index(e.head)][at::MARKS]),
-    }
-}
-
-// "entry by entry 6 to 9"
-pub fn entry_verdict(e: Entry, fits: bool, time: u32, heads: &[Row; 16]) -> Verdict
+// "entry by entry 6 to 9"; cause 9 by the table of open actions, which is lent.
+pub fn entry_verdict(
+    e: Entry,
+    fits: bool,
+    time: u32,
+    table: &[u8; 1280],
+    heads: &[Row; 16],
+) -> Verdict
+    requires { ⌜ (fits ≡ true → IsInTable e (now heads)) × (now table ≡ openActions) ⌝ }
     ensures { λ v. ⌜ ((ws : List ℕ) (i : ℕ) (s : History) → Stands ws i s (now (heads .entry)) → time ≡ lastTime s → e ≡ entryAt ws i → fits ≡ entryFitsAt ws i
         → v ≡ answerAt ws i s .verdict) ⌝ }
 {
@@ -51,7 +43,7 @@ pub fn entry_verdict(e: Entry, fits: bool, time: u32, heads: &[Row; 16]) -> Verd
     if e.reading.0 < heads[head_index(e.head)][at::LAST] {
         return Verdict::Refused(Cause::ReadingFell);
     }
-    if is_open(e, heads) {
+    if is_open(e, table, heads) {
         return Verdict::Accepted;
     }
     Verdict::Refused(Cause::ActionClosed)

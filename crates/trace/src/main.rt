@@ -7,6 +7,7 @@ use data_bytes::bytes_verdict;
 use libc::STDIN_FILENO;
 use libc::STDOUT_FILENO;
 use protocol::Verdict;
+use sheet_open::open_actions;
 use sheet_words::sheet_verdict;
 use trace_entries::Line;
 use trace_entries::Traced;
@@ -32,13 +33,22 @@ fn print_line(i: usize, l: Line) {
 fn print_entries(sheet: &[u32])
     requires { ⌜ sheetVerdict (now sheet) ≡ Accepted ⌝ }
 {
+    let table = open_actions();
     let mut heads = first_heads(sheet);
     let mut choices = [0u8; 512];
     let mut carried = [0u32; 512];
     let mut time: u32 = 0;
     let mut i: usize = 0;
     loop {
-        let t = trace_next(sheet, i, time, &mut heads, &mut choices, &mut carried);
+        let t = trace_next(
+            sheet,
+            i,
+            time,
+            &table,
+            &mut heads,
+            &mut choices,
+            &mut carried,
+        );
         match t {
             Traced::After(l) => {
                 print_line(i, l);

@@ -20,6 +20,7 @@ ghost use mathlib.Core.Path.{_≡_};
 ghost use lib.ListN.{replicate};
 ghost use Rattle.protocol.specs.declared.Verdict.the-variants.{Accepted};
 ghost use Rattle.protocol.specs.Causes.{sheetVerdict};
+ghost use Rattle.protocol.specs.OpenTable.{openActions};
 ghost use Rattle.trace_entries.specs.Trace.{traced};
 ghost use Rattle.trace_entries.specs.Follows.{Follows, GoesOn, IsLine};
 
@@ -68,23 +69,24 @@ pub fn first_heads(sheet: &[u32]) -> [Row; 16]
     fresh_heads(setting_at(sheet))
 }
 
-// Entry i of a sheet and its head after it, or its refusal, from what the entries before it left.
+// Entry i of a sheet and its head after it, or its refusal, from what the entries before it left. The table of open actions is lent.
 pub fn trace_next(
     sheet: &[u32],
     i: usize,
     time: u32,
+    table: &[u8; 1280],
     heads: &mut [Row; 16],
     choices: &mut [u8; 512],
     carried: &mut [u32; 512],
 ) -> Traced
-    requires { ⌜ Follows (now sheet) i (now heads) (now choices) (now carried) time ⌝ }
+    requires { ⌜ Follows (now sheet) i (now heads) (now choices) (now carried) time × (now table ≡ openActions) ⌝ }
     ensures { λ t. ⌜ (t ≡ traced (now (sheet .entry)) i) × GoesOn (now (sheet .entry)) i t (now (heads .exit)) (now (choices .exit)) (now (carried .exit)) ⌝ }
 {
     if i < entry_count(sheet) {
         let g = setting_at(sheet);
         let r = read_entry(sheet, g.n, i);
         let e = r.entry;
-        let v = entry_verdict(e, r.fits, time, heads);
+        let v = entry_verdict(e, r.fits, time, table, heads);
         match v {
             Verdict::Refused(c) => Traced::RefusedAt(c, 2 + 3 * i),
             Verdict::Accepted => {

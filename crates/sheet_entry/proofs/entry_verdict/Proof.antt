@@ -1,5 +1,6 @@
 use mathlib.Core.Path.{sym, _∙_}
 use mathlib.Core.Bool.{true, false}
+use Rattle.protocol.proofs.Tests.{not-false}
 use Rattle.sheet_entry.proofs.Verdicts.{bad-entry, time-fell, reading-fell, rest-is-open}
 use borrow.Author.Needs.{needs}
 use Rattle.sheet_entry.proofs.entry_verdict.Statement.{statement}
@@ -28,7 +29,7 @@ returns-3 c = λ ws i s now time is fits.
     reading-fell now time is fits (c .before .before .before .before .before .before .if1 .left) (c .before .before .before .before .if2 .left) _ (c .before .before .before .head-index .ensures) (c .if3 .taken)
 
 is-open-requires : tie.Need-is-open-requires
-is-open-requires c κs = search needs
+is-open-requires c κs = let p = c .before .before .before .before .before .before .before .pre in (p .0 (not-false (c .before .before .before .before .before .before .if1 .left)), p .1)
 
 returns-4 : tie.Need-returns-4
 returns-4 c = λ ws i s now time is fits.

@@ -7,19 +7,22 @@ use Rattle.trace.proofs.print_entries.Statement.{statement}
 use Rattle.trace.proofs.print_entries.Tie as tie
 
 abbrev Inv-loop : tie.InvT-loop
-Inv-loop sheet heads₀ choices₀ carried₀ time₀ i₀ heads choices carried time i = Follows sheet i heads choices carried time
+Inv-loop sheet table heads₀ choices₀ carried₀ time₀ i₀ heads choices carried time i = Follows sheet i heads choices carried time
 
 abbrev μ-loop : tie.MeasureT-loop
-μ-loop sheet heads₀ choices₀ carried₀ time₀ i₀ heads choices carried time i = entryCount sheet - i
+μ-loop sheet table heads₀ choices₀ carried₀ time₀ i₀ heads choices carried time i = entryCount sheet - i
+
+open-actions-requires : tie.Need-open-actions-requires Inv-loop μ-loop
+open-actions-requires c κs = search needs
 
 first-heads-requires : tie.Need-first-heads-requires Inv-loop μ-loop
-first-heads-requires c κs = c .before .pre
+first-heads-requires c κs = c .before .before .pre
 
 loop-holds : tie.Need-loop-holds Inv-loop μ-loop
 loop-holds c = c .first-heads .ensures
 
 trace-next-requires : tie.Need-trace-next-requires Inv-loop μ-loop
-trace-next-requires c κs = c .before .before .before .loop .inv
+trace-next-requires c κs = (c .before .before .before .before .loop .inv, c .before .before .before .before .before .before .open-actions .ensures)
 
 enum-known-t : tie.Need-enum-known-t Inv-loop μ-loop
 enum-known-t c = search needs
@@ -54,6 +57,7 @@ print-entries-spec =
     (tie.spec
     Inv-loop
     μ-loop
+    open-actions-requires
     first-heads-requires
     loop-holds
     trace-next-requires

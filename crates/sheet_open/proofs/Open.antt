@@ -1,0 +1,131 @@
+-- Cause 9 of an entry, read off the heads' rows and the table.
+-- Main results: `head-row`; `start-passes`, `frame-passes`, `others-pass`; `in-table`, `at-index`, `closed-there`, `open-there`.
+use mathlib.Core.Path.{_≡_, refl, sym, _∙_, ap, subst}
+use mathlib.Core.Bool.{Bool, true, false, cond, not, _&&_, _||_}
+use mathlib.Core.List.{List, []}
+use mathlib.Core.Logic.{_≢_}
+use Prim.Native.Nat.{ℕ, _%_, _≤_, _<_}
+use native.Mathlib.Omega.{arith}
+use lib.Dec.{ltb, eqb}
+use lib.ListN.{getD}
+use borrow.Author.Tests.{ne-eqb}
+use Rattle.protocol.specs.declared.HeadRecord.{HeadRecord}
+use Rattle.protocol.specs.declared.Setting.{Setting}
+use Rattle.protocol.specs.declared.Entry.{Entry}
+use Rattle.protocol.specs.declared.Frame.the-variants.{NoFrame, Start}
+use Rattle.protocol.specs.Words.{hasSender, hasSerial, settingAt, entryAt, entryFitsAt}
+use Rattle.protocol.specs.Record.{Kind, votes, adjusts, phaseOf, marksNumber}
+use Rattle.protocol.specs.Premises.{delivery}
+use Rattle.protocol.specs.Step.{hasMark, actionOf}
+use Rattle.protocol.specs.Row.{rowOf}
+use Rattle.protocol.specs.Run.{History, recordOf, frameOf, isFrame, inputOf}
+use Rattle.protocol.specs.OpenTable.{no, openIndex, openActions}
+use Rattle.protocol.proofs.Fits.{entry-fits}
+use Rattle.protocol.proofs.Valid.{Valid, fixed}
+use Rattle.protocol.proofs.Runs.{start-sent, sent-below}
+use Rattle.head_open.proofs.Marks.{has-started, marks-below-128, made-of}
+use Rattle.sheet_state.specs.Arrays.{Stands}
+use Rattle.sheet_state.proofs.Standing.{entry-sized, valid-history, row-at}
+use Rattle.sheet_open.specs.Open.{isOpen, senderPasses, marksAt, IsInTable}
+use Rattle.sheet_open.proofs.Table.{open-rule}
+
+-- THE SENDER, BY THE RECORDS
+
+start-if : (b : Bool) → (isFrame (cond b Start NoFrame) && true) ≡ b
+start-if true = refl
+start-if false = refl
+
+module _ (g : Setting) (s : History) (v : Valid g s) (e : Entry) where
+  start-sent-by : e .action ≡ 2 → hasMark (marksNumber (recordOf g s (e .sender))) 1 ≡ senderPasses s e
+  start-sent-by a = rw (a, start-sent g v (e .sender) (e .serial), has-started (recordOf g s (e .sender))) (sym (start-if (recordOf g s (e .sender) .started)))
+
+  frame-sent-by : (k : Kind) → e .action ≡ delivery k → (ltb (e .serial) (phaseOf k (recordOf g s (e .sender)) .sent) && not (eqb (e .sender) (e .head))) ≡ senderPasses s e
+  frame-sent-by votes a = rw (a, sent-below g votes v (e .sender) (e .serial)) refl
+  frame-sent-by adjusts a = rw (a, sent-below g adjusts v (e .sender) (e .serial)) refl
+
+-- THE TABLE, BY THE RECORDS
+
+and-false : (b : Bool) → (b && false) ≡ false
+and-false true = refl
+and-false false = refl
+
+and-true : (b : Bool) → (b && true) ≡ b
+and-true true = refl
+and-true false = refl
+
+apart : (a b c : Bool) → (a && not (b || c)) ≡ ((a && not b) && not c)
+apart true true c = refl
+apart true false c = refl
+apart false b c = refl
+
+open-by : (g : Setting) (s : History) → Valid g s → (e : Entry) → e .action ≤ 9
+    → isOpen g s e ≡ (senderPasses s e && not (eqb (getD openActions (openIndex (e .action) (marksNumber (recordOf g s (e .head)))) 0) no))
+unfolding isOpen inputOf
+open-by g s v e h =
+    let made = made-of (recordOf g s (e .head)) (inputOf e (frameOf s e)) h in
+    rw (open-rule (recordOf g s (e .head)) (actionOf (inputOf e (frameOf s e))), made .0, made .1, fixed g v (e .head) .own-is)
+    (apart (not (hasSender (e .action)) || isFrame (frameOf s e)) (hasSerial (e .action) && eqb (e .sender) (e .head)) _)
+
+-- BY THE ROWS: an entry after the first i
+
+marks-in : (r : HeadRecord) → getD (rowOf r) 1 0 ≡ marksNumber r
+unfolding rowOf
+marks-in r = refl
+
+-- the votes and the adjusts sent
+abbrev pub sentIn : Kind → List ℕ → ℕ
+sentIn votes row = getD row 3 0
+sentIn adjusts row = getD row 5 0
+
+sent-in : (k : Kind) (r : HeadRecord) → sentIn k (rowOf r) ≡ phaseOf k r .sent
+unfolding rowOf
+sent-in votes r = refl
+sent-in adjusts r = refl
+
+-- at the index of a head stands that head's row
+module _ {ws : List ℕ} {i : ℕ} {s : History} {heads : List (List ℕ)} (now : Stands ws i s heads) {e : Entry} (is : e ≡ entryAt ws i) where
+  row-of : (q at : ℕ) → q < 16 → at ≡ q % 16 → getD heads at [] ≡ rowOf (recordOf (settingAt ws) s q)
+  row-of q at below index-is = let same : at ≡ q = omega arith in ap (λ (j : ℕ). getD heads j []) same ∙ row-at now q below
+
+  pub head-row : (at : ℕ) → at ≡ e .head % 16 → getD heads at [] ≡ rowOf (recordOf (settingAt ws) s (e .head))
+  head-row at = row-of (e .head) at (subst (λ (e : Entry). e .head < 16) (sym is) (entry-sized ws i .0))
+
+  sender-row : (at : ℕ) → at ≡ e .sender % 16 → getD heads at [] ≡ rowOf (recordOf (settingAt ws) s (e .sender))
+  sender-row at = row-of (e .sender) at (subst (λ (e : Entry). e .sender < 16) (sym is) (entry-sized ws i .1))
+
+  pub start-passes : (at : ℕ) → at ≡ e .sender % 16 → e .action ≡ 2 → hasMark (getD (getD heads at []) 1 0) 1 ≡ senderPasses s e
+  start-passes at u a = rw (sender-row at u, marks-in (recordOf (settingAt ws) s (e .sender))) (start-sent-by (settingAt ws) s (valid-history now) e a)
+
+  pub frame-passes : (k : Kind) (at : ℕ) → at ≡ e .sender % 16 → e .action ≡ delivery k
+      → (ltb (e .serial) (sentIn k (getD heads at [])) && not (eqb (e .sender) (e .head))) ≡ senderPasses s e
+  frame-passes k at u a = rw (sender-row at u, sent-in k (recordOf (settingAt ws) s (e .sender))) (frame-sent-by (settingAt ws) s (valid-history now) e k a)
+
+  marks-of-head : marksAt heads (e .head) ≡ marksNumber (recordOf (settingAt ws) s (e .head))
+  marks-of-head = ap (λ (row : List ℕ). getD row 1 0) (head-row (e .head % 16) refl) ∙ marks-in (recordOf (settingAt ws) s (e .head))
+
+  -- what `is_open` asks of its caller
+  pub in-table : entryFitsAt ws i ≡ true → IsInTable e heads
+  in-table fits =
+      let few = subst (λ (e : Entry). e .action ≤ 9) (sym is) (entry-fits _ _ _ _ fits .action) in
+      (omega arith, rw marks-of-head (marks-below-128 (recordOf (settingAt ws) s (e .head))))
+
+  -- by the entry of the table at the index that is asked
+  module _ (t : List ℕ) (table-is : t ≡ openActions) (inside : IsInTable e heads) (at j : ℕ) (u : at ≡ e .head % 16) (index-is : j ≡ openIndex (e .action) (getD (getD heads at []) 1 0)) where
+    table-says : isOpen (settingAt ws) s e ≡ (senderPasses s e && not (eqb (getD t j 0) no))
+    table-says =
+        let few = inside .0 in
+        rw (table-is, index-is, head-row at u, marks-in (recordOf (settingAt ws) s (e .head))) (open-by (settingAt ws) s (valid-history now) e (omega arith))
+
+    pub closed-there : getD t j 0 ≡ no → false ≡ isOpen (settingAt ws) s e
+    closed-there says = sym (table-says ∙ rw says (and-false (senderPasses s e)))
+
+    pub open-there : getD t j 0 ≢ no → (b : Bool) → b ≡ senderPasses s e → b ≡ isOpen (settingAt ws) s e
+    open-there says b passes = sym (table-says ∙ rw (ne-eqb (getD t j 0) no says, ← passes) (and-true b))
+
+-- the same at the index that a head has in the array
+pub at-index : (heads : List (List ℕ)) (e : Entry) (at : ℕ) → at ≡ e .head % 16 → IsInTable e heads → (e .action < 10) × (getD (getD heads at []) 1 0 < 128)
+at-index heads e at u inside = (inside .0, rw u (inside .1))
+
+-- every action but 2, 5 and 8 passes
+pub others-pass : (s : History) (e : Entry) → e .action ≢ 2 → e .action ≢ 5 → e .action ≢ 8 → true ≡ senderPasses s e
+others-pass s e a b d = rw (ne-eqb (e .action) 2 a, ne-eqb (e .action) 5 b, ne-eqb (e .action) 8 d) refl
