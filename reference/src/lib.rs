@@ -12,6 +12,7 @@ pub mod cover;
 pub mod fast;
 pub mod generate;
 pub mod judge;
+pub mod open;
 pub mod program;
 pub mod random;
 pub mod record;
