@@ -17,6 +17,7 @@ use Rattle.protocol.specs.Record.{isReading, isNumber, readingOr0, numberOr0, s
 use Rattle.protocol.specs.Step.{hasMark}
 use Rattle.protocol.specs.Row.{numberPlus1, readingPlus1, rowOf}
 use Rattle.protocol.specs.Board.{resultNumbers}
+use Rattle.protocol.proofs.Tests.{and-false}
 use Rattle.protocol.proofs.Ranges.{InRange, in-range, SentInRange}
 use Rattle.head_row.proofs.Rows.{start-read}
 use Rattle.head_open.proofs.Marks.{has-adjust-closed}
@@ -96,10 +97,6 @@ module _ (w : List ℕ) (r : HeadRecord) (is : w ≡ rowOf r) where
 
 -- THE FIVE ENDS
 
-and-false : (a : Bool) → (a && false) ≡ false
-and-false true = refl
-and-false false = refl
-
 five : {a b c d a' b' c' d' : ℕ} → a ≡ a' → b ≡ b' → c ≡ c' → d ≡ d' → _≡_ {A = List ℕ} (2 ∷ a ∷ b ∷ c ∷ d ∷ []) (2 ∷ a' ∷ b' ∷ c' ∷ d' ∷ [])
 five p q u v = rw (p, q, u, v) refl
 
@@ -116,7 +113,7 @@ module _ (w : List ℕ) (b : Bool) (test : b ≡ hasMark (getD w 1 0) 32) where
     no-candidate z = λ r is range long. not-adopted r is (rw (none-is-0 (r .vote .choice) (sym (candidate-is w r is) ∙ z)) refl)
 
     pub no-adjuster : getD w 4 0 ≡ 0 → IsResult w (1 ∷ 0 ∷ 0 ∷ 0 ∷ 0 ∷ [])
-    no-adjuster z = λ r is range long. not-adopted r is (ap (λ (m : OptNumber). isReading (chosenStart r) && isNumber m) (none-is-0 (r .adjust .choice) (sym (adjuster-is w r is) ∙ z)) ∙ and-false (isReading (chosenStart r)))
+    no-adjuster z = λ r is range long. not-adopted r is (ap (λ (m : OptNumber). isReading (chosenStart r) && isNumber m) (none-is-0 (r .adjust .choice) (sym (adjuster-is w r is) ∙ z)) ∙ and-false (isReading (chosenStart r)) false refl)
 
     pub no-start : getD w 2 0 ≢ 0 → getD w (16 + (getD w 2 0 - 1) % 16) 0 ≡ 0 → IsResult w (1 ∷ 0 ∷ 0 ∷ 0 ∷ 0 ∷ [])
     no-start c z =

@@ -21,6 +21,7 @@ use Rattle.protocol.specs.Record.{votes, adjusts, isNumber, reading, startOf, m
 use Rattle.protocol.specs.Median.{median}
 use Rattle.protocol.specs.Step.{choose, withVote, vote, adjust, startsHeld, mayLead, lead, voteReadings, mayAdjust, propose, hasMark}
 use Rattle.protocol.specs.Row.{numberPlus1, readingPlus1, rowOf, sentOf}
+use Rattle.protocol.proofs.Tests.{and-false}
 use Rattle.head_row.specs.Promises.{Fits, Reads, Acts}
 use Rattle.head_row.proofs.Rows.{own-number, start-read, vote-written, vote-phase-written, adjust-phase-written}
 use Rattle.head_open.proofs.Marks.{withMark, has-vote-turn, has-vote-closed, has-candidate, with-candidate}
@@ -76,10 +77,6 @@ adjust-gives a x row a' k' a-is k-is small r is fit =
 -- the marks of a head that has taken its turn, with the vote open and no candidate
 abbrev waiting : ℕ → Bool
 waiting m = hasMark m 4 && (not (hasMark m 8) && not (hasMark m 64))
-
-and-false : (a : Bool) → false ≡ a && false
-and-false true = refl
-and-false false = refl
 
 and-assoc : (a b c d : Bool) → a && (b && (c && d)) ≡ (a && (b && c)) && d
 and-assoc true true c d = refl
@@ -142,7 +139,7 @@ module _ (row : List ℕ) where
   pub may-not-adjust-again : getD row 4 0 ≢ 0 → Reads mayAdjust row (eqb (getD row 4 0) 0)
   unfolding mayAdjust
   may-not-adjust-again some r is fit =
-      rw (ne-eqb _ _ some, is-some (r .adjust .choice) (own-number r is 4 (lit< tt)) some) (and-false (isNumber (r .vote .choice)))
+      rw (ne-eqb _ _ some, is-some (r .adjust .choice) (own-number r is 4 (lit< tt)) some) (sym (and-false (isNumber (r .vote .choice)) false refl))
 
 module _ (row : List ℕ) (b : Bool) (may : Reads mayAdjust row b) where
   pub propose-adjusts : (row' : List ℕ) (x : Sent) (y : ℕ) → b ≡ true → Reads (λ (r : HeadRecord). median (voteReadings r (r .n))) row y

@@ -19,7 +19,7 @@ use Rattle.protocol.specs.Words.{isCorrect}
 use Rattle.protocol.specs.Record.{Kind, votes, adjusts}
 use Rattle.protocol.specs.Run.{Event, History}
 use Rattle.protocol.specs.Premises.{delivery, closing, each, before, correctTakes, correctCloses, noneBetween, premise3, premise5, premise7}
-use Rattle.protocol.proofs.Tests.{not-true, not-false, or-right}
+use Rattle.protocol.proofs.Tests.{not-true, not-false, or-right, and-true}
 use Rattle.judge_premise_3.proofs.Events.{premise-3-kept}
 use Rattle.judge_premises_5_to_8.specs.Closes.{phaseKind, phaseReached, isLate, flag, foundOf, Found}
 
@@ -74,11 +74,7 @@ first-asked p Q e s = go (any p s) (p e)
     go : (a b : Bool) → ((b || a) ⇒ Q (cond a (before p s) (cond b s (e ∷ s)))) ≡ (((b && not a) ⇒ Q s) && (a ⇒ Q (before p s)))
     go true true = refl
     go true false = refl
-    go false true = and-true (Q s)
-      where
-        and-true : (b : Bool) → b ≡ (b && true)
-        and-true true = refl
-        and-true false = refl
+    go false true = sym (and-true (Q s))
     go false false = refl
 
 module _ (g : Setting) (e : Event) (s : History) where

@@ -18,7 +18,7 @@ use Rattle.protocol.specs.Step.{withVoteReading, isAbove, outranks}
 use Rattle.protocol.specs.Run.{Event, History, recordOf, isDeliveredBy, orElse, frameSent, frameOf, isFrame}
 use Rattle.protocol.specs.Premises.{takes, receives, received}
 use Rattle.protocol.specs.Premises as Premises
-use Rattle.protocol.proofs.Tests.{absurd-bool, and-left, and-right, and-both, or-first, or-right, or-cases, not-true, not-false, eqb-same}
+use Rattle.protocol.proofs.Tests.{absurd-bool, and-left, and-right, and-both, or-first, or-right, or-cases, not-true, not-false, eqb-same, and-false}
 use Rattle.protocol.proofs.Moments.{Earlier, now, later, any-grows, find}
 use Rattle.protocol.proofs.Effects.{Kind, votes, adjusts, phaseOf, takenOf, delivery, closing, deliveryIn, deliveredBy, serialOf, named, namedBy, taken, passedOver, ignored, Delivery, prepared, Sending, sendingOf, namedIn, chosenBy, namedUnder, prepared-choice, prepared-sent, phase-last, chosen-turn, chosen-closed, phase-after, named-after, allowed, naming, Why, itself, told, none-is-some, same-number, closed-last, taken-after, ignored-frame, delivered-sending}
 use Rattle.protocol.proofs.Valid.{baseOf, Taken, Valid, start, more, frame-fits, record-at, record-other, by-head, of-effect, fixed, keptNext, kept-at, closed-took}
@@ -56,10 +56,6 @@ no-senders (suc k) (suc p) = no-senders k p
 has-sender : (k : Kind) → hasSender (delivery k) ≡ true
 has-sender votes = refl
 has-sender adjusts = refl
-
-and-false : (a b : Bool) → b ≡ false → (a && b) ≡ false
-and-false true b e = e
-and-false false b e = refl
 
 above-taken : (j : ℕ) (m : OptNumber) → isAbove j m ≡ true → taken m ≤ j
 above-taken j NoNumber e = omega arith

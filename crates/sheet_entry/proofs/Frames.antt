@@ -20,7 +20,7 @@ use Rattle.protocol.specs.Record.{Kind, votes, adjusts, numberOr0}
 use Rattle.protocol.specs.Premises.{delivery}
 use Rattle.protocol.specs.Row.{sentOf}
 use Rattle.protocol.specs.Run.{Event, History, isDeliveredBy, carriedChoice}
-use Rattle.protocol.proofs.Tests.{absurd-bool, cases, cond-elim, and-left, and-right, eqb-same}
+use Rattle.protocol.proofs.Tests.{absurd-bool, cases, cond-elim, and-left, and-right, eqb-same, and-false}
 use Rattle.protocol.proofs.Tables.{length-table, table-at, is-table, set-table}
 use Rattle.protocol.proofs.Effects.{named, serialOf}
 use Rattle.protocol.proofs.Valid.{Taken, Valid, more}
@@ -65,10 +65,6 @@ no-index Start h j = cond-elim (λ (a : ℕ). eqb a 2 ≡ false) (ltb j 256) (λ
 no-index (Vote i c x) h j = absurd (omega arith)
 no-index (Adjust i c x) h j = absurd (omega arith)
 
-and-false : (a : Bool) {b : Bool} → b ≡ false → (a && b) ≡ false
-and-false true e = e
-and-false false e = refl
-
 -- ONE ARRAY: part is what it keeps of a frame
 
 module _ (part : Frame → ℕ) where
@@ -86,7 +82,7 @@ module _ (part : Frame → ℕ) where
   unchanged s e h =
       is-table (λ j. part (frameAt (e ∷ s) j)) 512 0 (arrayOf s) (length-table (λ j. part (frameAt s j)) 0 512)
       (λ j below. table-at (λ j. part (frameAt s j)) 512 j 0 below
-      ∙ ap part (sym (sent-before e s (actionAt j) (headAt j) (serialAt j) (and-false (eqb (e .entry .head) (headAt j)) (no-index (e .frame) h j)))))
+      ∙ ap part (sym (sent-before e s (actionAt j) (headAt j) (serialAt j) (and-false (eqb (e .entry .head) (headAt j)) _ (no-index (e .frame) h j)))))
 
 -- BOTH ARRAYS
 

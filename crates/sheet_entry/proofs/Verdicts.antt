@@ -22,8 +22,8 @@ use Rattle.protocol.specs.Row.{rowOf}
 use Rattle.protocol.specs.Run.{History, recordOf, lastTime, stepEntry}
 use Rattle.protocol.proofs.Effects.{effect-accepted}
 use Rattle.sheet_state.specs.Arrays.{answerAt, Stands}
+use Rattle.sheet_state.proofs.Standing.{head-row}
 use Rattle.sheet_open.specs.Open.{isOpen}
-use Rattle.sheet_open.proofs.Open.{head-row}
 
 last-in : (r : HeadRecord) → getD (rowOf r) 0 0 ≡ r .last .0
 unfolding rowOf

@@ -1,5 +1,5 @@
 -- Cause 9 of an entry, read off the heads' rows and the table.
--- Main results: `head-row`; `start-passes`, `frame-passes`, `others-pass`; `in-table`, `at-index`, `closed-there`, `open-there`.
+-- Main results: `start-passes`, `frame-passes`, `others-pass`; `in-table`, `at-index`, `closed-there`, `open-there`.
 use mathlib.Core.Path.{_≡_, refl, sym, _∙_, ap, subst}
 use mathlib.Core.Bool.{Bool, true, false, cond, not, _&&_, _||_}
 use mathlib.Core.List.{List, []}
@@ -20,38 +20,31 @@ use Rattle.protocol.specs.Step.{hasMark, actionOf}
 use Rattle.protocol.specs.Row.{rowOf}
 use Rattle.protocol.specs.Run.{History, recordOf, frameOf, isFrame, inputOf}
 use Rattle.protocol.specs.OpenTable.{no, openIndex, openActions}
+use Rattle.protocol.proofs.Tests.{and-false, and-true}
 use Rattle.protocol.proofs.Fits.{entry-fits}
 use Rattle.protocol.proofs.Valid.{Valid, fixed}
 use Rattle.protocol.proofs.Runs.{start-sent, sent-below}
 use Rattle.head_open.proofs.Marks.{has-started, marks-below-128, made-of}
 use Rattle.sheet_state.specs.Arrays.{Stands}
-use Rattle.sheet_state.proofs.Standing.{entry-sized, valid-history, row-at}
+use Rattle.sheet_state.proofs.Standing.{valid-history, head-row, sender-row}
 use Rattle.sheet_open.specs.Open.{isOpen, senderPasses, marksAt, IsInTable}
 use Rattle.sheet_open.proofs.Table.{open-rule}
 
 -- THE SENDER, BY THE RECORDS
 
-start-if : (b : Bool) → (isFrame (cond b Start NoFrame) && true) ≡ b
+start-if : (b : Bool) → isFrame (cond b Start NoFrame) ≡ b
 start-if true = refl
 start-if false = refl
 
 module _ (g : Setting) (s : History) (v : Valid g s) (e : Entry) where
   start-sent-by : e .action ≡ 2 → hasMark (marksNumber (recordOf g s (e .sender))) 1 ≡ senderPasses s e
-  start-sent-by a = rw (a, start-sent g v (e .sender) (e .serial), has-started (recordOf g s (e .sender))) (sym (start-if (recordOf g s (e .sender) .started)))
+  start-sent-by a = rw (a, start-sent g v (e .sender) (e .serial), has-started (recordOf g s (e .sender))) (sym (and-true (isFrame (cond (recordOf g s (e .sender) .started) Start NoFrame)) ∙ start-if (recordOf g s (e .sender) .started)))
 
   frame-sent-by : (k : Kind) → e .action ≡ delivery k → (ltb (e .serial) (phaseOf k (recordOf g s (e .sender)) .sent) && not (eqb (e .sender) (e .head))) ≡ senderPasses s e
   frame-sent-by votes a = rw (a, sent-below g votes v (e .sender) (e .serial)) refl
   frame-sent-by adjusts a = rw (a, sent-below g adjusts v (e .sender) (e .serial)) refl
 
 -- THE TABLE, BY THE RECORDS
-
-and-false : (b : Bool) → (b && false) ≡ false
-and-false true = refl
-and-false false = refl
-
-and-true : (b : Bool) → (b && true) ≡ b
-and-true true = refl
-and-true false = refl
 
 apart : (a b c : Bool) → (a && not (b || c)) ≡ ((a && not b) && not c)
 apart true true c = refl
@@ -82,26 +75,16 @@ unfolding rowOf
 sent-in votes r = refl
 sent-in adjusts r = refl
 
--- at the index of a head stands that head's row
 module _ {ws : List ℕ} {i : ℕ} {s : History} {heads : List (List ℕ)} (now : Stands ws i s heads) {e : Entry} (is : e ≡ entryAt ws i) where
-  row-of : (q at : ℕ) → q < 16 → at ≡ q % 16 → getD heads at [] ≡ rowOf (recordOf (settingAt ws) s q)
-  row-of q at below index-is = let same : at ≡ q = omega arith in ap (λ (j : ℕ). getD heads j []) same ∙ row-at now q below
-
-  pub head-row : (at : ℕ) → at ≡ e .head % 16 → getD heads at [] ≡ rowOf (recordOf (settingAt ws) s (e .head))
-  head-row at = row-of (e .head) at (subst (λ (e : Entry). e .head < 16) (sym is) (entry-sized ws i .0))
-
-  sender-row : (at : ℕ) → at ≡ e .sender % 16 → getD heads at [] ≡ rowOf (recordOf (settingAt ws) s (e .sender))
-  sender-row at = row-of (e .sender) at (subst (λ (e : Entry). e .sender < 16) (sym is) (entry-sized ws i .1))
-
   pub start-passes : (at : ℕ) → at ≡ e .sender % 16 → e .action ≡ 2 → hasMark (getD (getD heads at []) 1 0) 1 ≡ senderPasses s e
-  start-passes at u a = rw (sender-row at u, marks-in (recordOf (settingAt ws) s (e .sender))) (start-sent-by (settingAt ws) s (valid-history now) e a)
+  start-passes at u a = rw (sender-row now is at u, marks-in (recordOf (settingAt ws) s (e .sender))) (start-sent-by (settingAt ws) s (valid-history now) e a)
 
   pub frame-passes : (k : Kind) (at : ℕ) → at ≡ e .sender % 16 → e .action ≡ delivery k
       → (ltb (e .serial) (sentIn k (getD heads at [])) && not (eqb (e .sender) (e .head))) ≡ senderPasses s e
-  frame-passes k at u a = rw (sender-row at u, sent-in k (recordOf (settingAt ws) s (e .sender))) (frame-sent-by (settingAt ws) s (valid-history now) e k a)
+  frame-passes k at u a = rw (sender-row now is at u, sent-in k (recordOf (settingAt ws) s (e .sender))) (frame-sent-by (settingAt ws) s (valid-history now) e k a)
 
   marks-of-head : marksAt heads (e .head) ≡ marksNumber (recordOf (settingAt ws) s (e .head))
-  marks-of-head = ap (λ (row : List ℕ). getD row 1 0) (head-row (e .head % 16) refl) ∙ marks-in (recordOf (settingAt ws) s (e .head))
+  marks-of-head = ap (λ (row : List ℕ). getD row 1 0) (head-row now is (e .head % 16) refl) ∙ marks-in (recordOf (settingAt ws) s (e .head))
 
   -- what `is_open` asks of its caller
   pub in-table : entryFitsAt ws i ≡ true → IsInTable e heads
@@ -114,10 +97,10 @@ module _ {ws : List ℕ} {i : ℕ} {s : History} {heads : List (List ℕ)} (now 
     table-says : isOpen (settingAt ws) s e ≡ (senderPasses s e && not (eqb (getD t j 0) no))
     table-says =
         let few = inside .0 in
-        rw (table-is, index-is, head-row at u, marks-in (recordOf (settingAt ws) s (e .head))) (open-by (settingAt ws) s (valid-history now) e (omega arith))
+        rw (table-is, index-is, head-row now is at u, marks-in (recordOf (settingAt ws) s (e .head))) (open-by (settingAt ws) s (valid-history now) e (omega arith))
 
     pub closed-there : getD t j 0 ≡ no → false ≡ isOpen (settingAt ws) s e
-    closed-there says = sym (table-says ∙ rw says (and-false (senderPasses s e)))
+    closed-there says = sym (table-says ∙ rw says (and-false (senderPasses s e) false refl))
 
     pub open-there : getD t j 0 ≢ no → (b : Bool) → b ≡ senderPasses s e → b ≡ isOpen (settingAt ws) s e
     open-there says b passes = sym (table-says ∙ rw (ne-eqb (getD t j 0) no says, ← passes) (and-true b))

@@ -43,7 +43,8 @@ fn open_index(a: u8, m: u32) -> usize
     (a as u32 * 128 + m) as usize
 }
 
-// Whether the frame that an entry delivers, if any, was sent, and by another head if it is a vote or an adjust.
+// Whether the frame that an entry delivers, if any, was sent, and by another head if it is a vote or an adjust. Starts are told apart
+// by a test of their own, and the actions below 5 leave before the match: so no jump by a table is made for them.
 fn sender_passes(e: Entry, heads: &[Row; 16]) -> bool
     ensures { λ b. ⌜ ((ws : List ℕ) (i : ℕ) (s : History) → Stands ws i s (now (heads .entry)) → e ≡ entryAt ws i
         → b ≡ senderPasses s e) ⌝ }

@@ -1,11 +1,12 @@
 -- What follows where the first i entries of a sheet are accepted and the rows are those of the heads after them.
--- Main results: `heads-few`, `at-most-16`, `valid-history`, `next-taken`, `row-at`; `entry-sized`.
-use mathlib.Core.Path.{_≡_, _∙_, ap}
+-- Main results: `heads-few`, `at-most-16`, `valid-history`, `next-taken`, `row-at`, `head-row`, `sender-row`; `entry-sized`.
+use mathlib.Core.Path.{_≡_, sym, _∙_, ap, subst}
 use mathlib.Core.Bool.{true}
 use mathlib.Core.List.{List, [], _∷_}
-use Prim.Native.Nat.{ℕ, suc, _≤_, _<_}
+use Prim.Native.Nat.{ℕ, suc, _%_, _≤_, _<_}
 use native.Mathlib.Omega.{arith}
 use lib.ListN.{getD}
+use Rattle.protocol.specs.declared.Entry.{Entry}
 use Rattle.protocol.specs.declared.Verdict.the-variants.{Accepted}
 use Rattle.protocol.specs.Words.{headsFit, entryOf, settingAt, entryAt}
 use Rattle.protocol.specs.Row.{rowOf}
@@ -37,3 +38,14 @@ module _ {ws : List ℕ} {i : ℕ} {s : History} {heads : List (List ℕ)} (now 
 
   pub row-at : (q : ℕ) → q < 16 → getD heads q [] ≡ rowOf (recordOf (settingAt ws) s q)
   row-at q l = ap (λ (h : List (List ℕ)). getD h q []) (now .heads-are) ∙ table-at (λ q. rowOf (recordOf (settingAt ws) s q)) 16 q [] l
+
+  -- at the index of a head stands that head's row
+  row-of : (q at : ℕ) → q < 16 → at ≡ q % 16 → getD heads at [] ≡ rowOf (recordOf (settingAt ws) s q)
+  row-of q at below index-is = let same : at ≡ q = omega arith in ap (λ (j : ℕ). getD heads j []) same ∙ row-at q below
+
+  module _ {e : Entry} (is : e ≡ entryAt ws i) where
+    pub head-row : (at : ℕ) → at ≡ e .head % 16 → getD heads at [] ≡ rowOf (recordOf (settingAt ws) s (e .head))
+    head-row at = row-of (e .head) at (subst (λ (e : Entry). e .head < 16) (sym is) (entry-sized ws i .0))
+
+    pub sender-row : (at : ℕ) → at ≡ e .sender % 16 → getD heads at [] ≡ rowOf (recordOf (settingAt ws) s (e .sender))
+    sender-row at = row-of (e .sender) at (subst (λ (e : Entry). e .sender < 16) (sym is) (entry-sized ws i .1))
