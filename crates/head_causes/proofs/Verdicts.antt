@@ -85,7 +85,7 @@ module _ (w : List ℕ) (i : Input) where
       marks-are = eqb-true _ _ (and-left (eqb (getD w 1 0) (marksNumber (recordIn w))) _ fits)
 
       closed-is : isClosed (recordIn w) (actionOf i) ≡ closedAt i (getD w 9 0) (getD w 1 0) (i .action)
-      unfolding actionOf inputFits recordIn
+      unfolding inputFits recordIn
       closed-is =
           closed-at i (recordIn w) (leb-true (i .action) 9 (and-left (leb (i .action) 9) _ f))
           ∙ ap (λ (m : ℕ). closedAt i (getD w 9 0) m (i .action)) (sym marks-are)
