@@ -44,7 +44,7 @@ fn open_index(a: u8, m: u32) -> usize
 }
 
 // Whether the frame that an entry delivers, if any, was sent, and by another head if it is a vote or an adjust. Starts are told apart
-// by a test of their own, and the actions below 5 leave before the match: so no jump by a table is made for them.
+// by a test of their own, and the actions below 5 leave before the match, so that they take no indirect jump.
 fn sender_passes(e: Entry, heads: &[Row; 16]) -> bool
     ensures { λ b. ⌜ ((ws : List ℕ) (i : ℕ) (s : History) → Stands ws i s (now (heads .entry)) → e ≡ entryAt ws i
         → b ≡ senderPasses s e) ⌝ }
