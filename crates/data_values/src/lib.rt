@@ -72,5 +72,6 @@ pub fn cause_number(c: Cause) -> u32
         Cause::BadRecord => 10,
         Cause::CounterTooFar => 11,
         Cause::BadField => 12,
+        Cause::TimeTooFar => 13,
     }
 }

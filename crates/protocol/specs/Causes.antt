@@ -4,7 +4,7 @@ use mathlib.Core.List.{List}
 use Prim.Native.Nat.{ℕ, _-_, _%_}
 use lib.Dec.{ltb, eqb}
 use lib.ListN.{length, getD}
-use Rattle.protocol.specs.Types.{Cause, TooManyWords, BadLength, BadFirstWord, BadSecondWord, ShortBuffer, BadEntry, TimeFell, ReadingFell, ActionClosed, BadRecord, CounterTooFar, BadField}
+use Rattle.protocol.specs.Types.{Cause, TooManyWords, BadLength, BadFirstWord, BadSecondWord, ShortBuffer, BadEntry, TimeFell, ReadingFell, ActionClosed, BadRecord, CounterTooFar, BadField, TimeTooFar}
 use Rattle.protocol.specs.Types.{Verdict, Accepted, Refused}
 use Rattle.protocol.specs.Words.{mostWords, firstWordFits, secondWordFits}
 
@@ -22,6 +22,7 @@ causeNumber BadRecord = 10
 causeNumber CounterTooFar = 11
 -- "new numbers join 01's table" (document 02)
 causeNumber BadField = 12
+causeNumber TimeTooFar = 13
 
 -- "back come 0", or the cause's number, where the place is always 0
 abbrev pub verdictNumber : Verdict → ℕ

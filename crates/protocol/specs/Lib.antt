@@ -1,4 +1,4 @@
--- Document 01 in definitions, in its order; from document 02, Recorder and OpenTable. Base and Types serve all the others.
+-- Document 01 in definitions, in its order; from document 02, Recorder, OpenTable and Draft. Base and Types serve all the others.
 pub mod Base
 pub mod Types
 pub mod Words
@@ -17,4 +17,5 @@ pub mod Program
 pub mod Board
 pub mod Recorder
 pub mod OpenTable
+pub mod Draft
 pub mod Marked

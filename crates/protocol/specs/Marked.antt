@@ -1,7 +1,7 @@
 -- Document 01, "The bench sheet, and its neighbours": the cases marked M, as entries of one table, with what document 02 adds to it.
 use mathlib.Core.List.{List, [], _∷_, _++_}
 use Prim.Native.Nat.{ℕ}
-use lib.ListN.{replicate}
+use lib.ListN.{length, replicate}
 use Rattle.protocol.specs.Types.{Setting, Entry}
 use Rattle.protocol.specs.Words.{settingAt, entryAt}
 use Rattle.protocol.specs.Spelling.{entryWords}
@@ -14,6 +14,7 @@ use Rattle.protocol.specs.Results.{Replay, replay, replayedNumbers}
 use Rattle.protocol.specs.Premises.{judge, judgedNumbers}
 use Rattle.protocol.specs.Program.{signed, printSheet}
 use Rattle.protocol.specs.Recorder.{settingFrom, entriesIn, Written, writeSheet}
+use Rattle.protocol.specs.Draft.{draftSheet, draft}
 
 -- M1's entries "as real time, reading, head, action, sender, serial"
 unfoldable pub m1Numbers : List ℕ
@@ -30,6 +31,16 @@ m1Numbers =
 -- M1, with the second word as a parameter
 unfoldable pub m1 : ℕ → List ℕ
 m1 second = 0x10200003 ∷ second ∷ entryWords (entriesIn m1Numbers)
+
+-- document 02, No. 3: the plain round of two heads, from real time 1000 on, 10 microseconds apart, in M1's order of numbers
+unfoldable pub plainNumbers : List ℕ
+plainNumbers =
+    1000 ∷ 1000 ∷ 0 ∷ 1 ∷ 0 ∷ 0 ∷ 1010 ∷ 1010 ∷ 1 ∷ 1 ∷ 0 ∷ 0 ∷ 1020 ∷ 1020 ∷ 0 ∷ 2 ∷ 0 ∷ 0 ∷ 1020 ∷ 1020 ∷ 1 ∷ 2 ∷ 0 ∷ 0
+    ∷ 1030 ∷ 1030 ∷ 0 ∷ 2 ∷ 1 ∷ 0 ∷ 1030 ∷ 1030 ∷ 1 ∷ 2 ∷ 1 ∷ 0 ∷ 1040 ∷ 1040 ∷ 0 ∷ 3 ∷ 0 ∷ 0 ∷ 1050 ∷ 1050 ∷ 1 ∷ 3 ∷ 0 ∷ 0
+    ∷ 1060 ∷ 1060 ∷ 0 ∷ 4 ∷ 0 ∷ 0 ∷ 1070 ∷ 1070 ∷ 1 ∷ 5 ∷ 0 ∷ 0 ∷ 1080 ∷ 1080 ∷ 1 ∷ 4 ∷ 0 ∷ 0 ∷ 1090 ∷ 1090 ∷ 0 ∷ 5 ∷ 1 ∷ 0
+    ∷ 1100 ∷ 1100 ∷ 0 ∷ 6 ∷ 0 ∷ 0 ∷ 1110 ∷ 1110 ∷ 1 ∷ 6 ∷ 0 ∷ 0 ∷ 1120 ∷ 1120 ∷ 0 ∷ 7 ∷ 0 ∷ 0 ∷ 1130 ∷ 1130 ∷ 1 ∷ 8 ∷ 0 ∷ 0
+    ∷ 1140 ∷ 1140 ∷ 1 ∷ 7 ∷ 0 ∷ 0 ∷ 1150 ∷ 1150 ∷ 0 ∷ 8 ∷ 1 ∷ 0 ∷ 1160 ∷ 1160 ∷ 0 ∷ 9 ∷ 0 ∷ 0 ∷ 1170 ∷ 1170 ∷ 1 ∷ 9 ∷ 0 ∷ 0
+    ∷ []
 
 -- answer and buffer of a replay, as numbers
 abbrev pub replayed : Replay → List ℕ
@@ -94,4 +105,15 @@ marked =
     -- document 02, No. 1: M1 written from its fields, n = 2, f = 0, heads 0 and 1 correct, 100 parts per million, 10 microseconds,
     -- into a buffer of one word more, which is kept; and M1's own words
     ∷ gives (writtenNumbers (writeSheet (settingFrom 2 0 3 100 10) m1Numbers (replicate 66 1))) (0 ∷ m1 0x2064000A ++ (1 ∷ []))
+    -- document 02, No. 3: the round of two heads into a buffer of one word more, which is kept, and that "the judge finds every premise kept"
+    ∷ gives (writtenNumbers (draft 2 0 1000 10 (replicate 63 1)) ++ judgedNumbers (judge (draftSheet 2 0 1000 10)))
+    (0 ∷ 0x10200003 ∷ 0x20000000 ∷ entryWords (entriesIn plainNumbers) ++ (1 ∷ 0 ∷ 0 ∷ 0 ∷ []))
+    -- the round of three heads: its room, what its replay gives, and the premises
+    ∷ gives (length (draftSheet 3 1 0 1) ∷ replayed (replay (draftSheet 3 1 0 1) (replicate 9 1)) ++ judgedNumbers (judge (draftSheet 3 1 0 1)))
+    (119 ∷ 0 ∷ 0 ∷ 0x62000000 ∷ 0x70000003 ∷ 0x80000003 ∷ 0x62100000 ∷ 0x70000003 ∷ 0x80000003 ∷ 0x62200000 ∷ 0x70000003 ∷ 0x80000003
+    ∷ 0 ∷ 0 ∷ 0 ∷ [])
+    -- causes 3, 13 and 5, the last two just past their bounds, and the last real time and the room that are just enough
+    ∷ gives (writtenNumbers (draft 2 1 268435456 0 (1 ∷ [])) ++ (writtenNumbers (draft 2 0 268435439 1 (1 ∷ []))
+    ++ (writtenNumbers (draft 2 0 268435438 1 (replicate 61 1)) ++ (verdictNumber (draft 2 0 268435438 1 (replicate 62 1) .verdict) ∷ []))))
+    (3 ∷ 1 ∷ 13 ∷ 1 ∷ 5 ∷ replicate 61 1 ++ (0 ∷ []))
     ∷ []

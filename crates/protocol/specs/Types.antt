@@ -14,7 +14,7 @@ pub use Rattle.protocol.specs.declared.Frame.{Frame}
 pub use Rattle.protocol.specs.declared.Frame.the-variants.{NoFrame, Start, Vote, Adjust}
 pub use Rattle.protocol.specs.declared.Sent.{Sent}
 pub use Rattle.protocol.specs.declared.Cause.{Cause}
-pub use Rattle.protocol.specs.declared.Cause.the-variants.{TooManyWords, BadLength, BadFirstWord, BadSecondWord, ShortBuffer, BadEntry, TimeFell, ReadingFell, ActionClosed, BadRecord, CounterTooFar, BadField}
+pub use Rattle.protocol.specs.declared.Cause.the-variants.{TooManyWords, BadLength, BadFirstWord, BadSecondWord, ShortBuffer, BadEntry, TimeFell, ReadingFell, ActionClosed, BadRecord, CounterTooFar, BadField, TimeTooFar}
 pub use Rattle.protocol.specs.declared.Verdict.{Verdict}
 pub use Rattle.protocol.specs.declared.Verdict.the-variants.{Accepted, Refused}
 pub use Rattle.protocol.specs.declared.Stepped.{Stepped}

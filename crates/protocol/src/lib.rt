@@ -107,6 +107,7 @@ pub enum Cause {
     BadRecord,
     CounterTooFar,
     BadField,
+    TimeTooFar,
 }
 
 // Whether an action is taken.

@@ -7,7 +7,7 @@ use native.Mathlib.Omega.{arith}
 use lib.ListN.{getD}
 use Rattle.protocol.specs.declared.Setting.{Setting}
 use Rattle.protocol.specs.declared.Cause.{Cause}
-use Rattle.protocol.specs.declared.Cause.the-variants.{TooManyWords, BadLength, BadFirstWord, BadSecondWord, ShortBuffer, BadEntry, TimeFell, ReadingFell, ActionClosed, BadRecord, CounterTooFar, BadField}
+use Rattle.protocol.specs.declared.Cause.the-variants.{TooManyWords, BadLength, BadFirstWord, BadSecondWord, ShortBuffer, BadEntry, TimeFell, ReadingFell, ActionClosed, BadRecord, CounterTooFar, BadField, TimeTooFar}
 use Rattle.protocol.specs.declared.Verdict.{Verdict}
 use Rattle.protocol.specs.declared.Verdict.the-variants.{Accepted, Refused}
 use Rattle.protocol.specs.declared.Replayed.{Replayed}
@@ -22,7 +22,7 @@ use Rattle.protocol.specs.Claim.{AgreesInWords}
 use Rattle.protocol.specs.Recorder.{Recorded}
 use Rattle.sheet_c.specs.Numbers.{AgreesInNumbers, RecordedIfAccepted, answerNumbers, judgedNumber}
 
-pub cause-range : (c : Cause) → (0 < causeNumber c) × (causeNumber c < 13)
+pub cause-range : (c : Cause) → (0 < causeNumber c) × (causeNumber c < 14)
 cause-range TooManyWords = (omega arith, omega arith)
 cause-range BadLength = (omega arith, omega arith)
 cause-range BadFirstWord = (omega arith, omega arith)
@@ -35,6 +35,7 @@ cause-range ActionClosed = (omega arith, omega arith)
 cause-range BadRecord = (omega arith, omega arith)
 cause-range CounterTooFar = (omega arith, omega arith)
 cause-range BadField = (omega arith, omega arith)
+cause-range TimeTooFar = (omega arith, omega arith)
 
 -- premises are numbered from 1 on
 none-broken : (i : ℕ) (l : List Bool) → 0 < i → judgedNumber (firstBroken i l) ≡ 0 → firstBroken i l ≡ Kept
