@@ -23,18 +23,29 @@ prints() {
     done
 }
 
-# refuses CAUSE N F CORRECT DRIFT TIGHTNESS: so the recorder turns back the numbers on its standard input, and writes nothing
+# refuses CAUSE EXAMPLE ARGUMENT..: so the example turns back what it is given, and writes nothing
 refuses() {
-    cause=$1
-    shift
-    ! "$out/recorder" "$@" >"$out/refused.sheet" 2>"$out/refused"
+    cause=$1 name=$2
+    shift 2
+    ! "$out/$name" "$@" >"$out/refused.sheet" 2>"$out/refused"
     echo "refused $cause" | diff - "$out/refused"
     [ ! -s "$out/refused.sheet" ]
 }
 
+# drafts N: replay finds all premises kept in the practice sheet of N heads, and each led by head 0, whose start comes to
+# all of them N steps of 100 after the first time, 1000
+drafts() {
+    start=$((1000 + 100 * $1))
+    for head in $(seq 0 $(($1 - 1))); do
+        echo "$head 2 0 0 $start $start 0"
+    done >"$out/draft.expected"
+    echo "premises 0" >>"$out/draft.expected"
+    "$out/draft" "$1" | target/bin/replay | diff "$out/draft.expected" -
+}
+
 build board_c two_boards edges
 prints two_boards edges
-build sheet_c one_sheet recorder
+build sheet_c one_sheet recorder draft
 prints one_sheet
 
 # M1 from its numbers is M1 word for word, and replays to M1's lines
@@ -43,10 +54,16 @@ rt check replay
 cmp samples/m1.sheet "$out/m1.sheet"
 target/bin/replay <"$out/m1.sheet" | diff samples/m1.txt -
 
-yes 0 | head -n 24577 | refuses 1 2 0 3 100 10
-echo 950 1000 1 1 0 | refuses 2 2 0 3 100 10
-echo 950 1000 1 1 1 0 | refuses 12 17 0 3 100 10
-echo 950 1000 1 1 0 0 | refuses 12 256 0 3 100 10
-echo 950 1000 1 10 0 0 | refuses 3 17 0 3 100 10
-echo 950 1000 1 10 0 0 | refuses 6 2 0 3 100 10
+yes 0 | head -n 24577 | refuses 1 recorder 2 0 3 100 10
+echo 950 1000 1 1 0 | refuses 2 recorder 2 0 3 100 10
+echo 950 1000 1 1 1 0 | refuses 12 recorder 17 0 3 100 10
+echo 950 1000 1 1 0 0 | refuses 12 recorder 256 0 3 100 10
+echo 950 1000 1 10 0 0 | refuses 3 recorder 17 0 3 100 10
+echo 950 1000 1 10 0 0 | refuses 6 recorder 2 0 3 100 10
+
+# a practice sheet of five heads is the sample; seventeen heads are too many
+drafts 2
+drafts 16
+"$out/draft" 5 | cmp samples/drafted.sheet -
+refuses 3 draft 17
 echo ok

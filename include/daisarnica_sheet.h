@@ -1,4 +1,5 @@
-/* daisarnica_sheet.h: whole run sheets for programs written in C: one is written from its fields, or replayed and judged.
+/* daisarnica_sheet.h: whole run sheets for programs written in C: one is written from its fields, drafted for practice, or
+ * replayed and judged.
  *
  * A call takes no other memory than what is lent to it and at most some 10 KB of stack, has no state between calls, and
  * always returns. It needs memcpy and memset and nothing else.
@@ -24,7 +25,10 @@ extern "C" {
 #define DAISARNICA_ENTRY_NUMBERS 6
 #define DAISARNICA_SHEET_NUMBERS (DAISARNICA_ENTRY_NUMBERS * 4096)
 
-/* The causes that the writer returns; 0 is for a sheet that was written. */
+/* The words of a drafted sheet of n heads: 2,498 for 16 heads, the most. */
+#define DAISARNICA_DRAFT_WORDS(n) (2 + 3 * (3 * (n) * (n) + 4 * (n)))
+
+/* The causes for which a sheet is not written (all but 13) or not drafted (3, 5 and 13); 0 is for one that was. */
 enum {
     DAISARNICA_WRITTEN = 0,
     DAISARNICA_TOO_MANY_NUMBERS = 1,  /* more than DAISARNICA_SHEET_NUMBERS */
@@ -32,7 +36,8 @@ enum {
     DAISARNICA_BAD_FIRST_WORD = 3,    /* n not 2 to 16, 2 f + 1 above n, or a correct bit at n or above */
     DAISARNICA_SHORT_BUFFER = 5,      /* out_words below 2 + 3 for each entry */
     DAISARNICA_BAD_ENTRY = 6,         /* an action above 9, or a head or sender not below n */
-    DAISARNICA_BAD_FIELD = 12         /* a number too large for its field, or not 0 where the field is not used */
+    DAISARNICA_BAD_FIELD = 12,        /* a number too large for its field, or not 0 where the field is not used */
+    DAISARNICA_TIME_TOO_FAR = 13      /* a draft whose last real time would be 2^28 or more */
 };
 
 /* Writes the run sheet of n heads of which at most f are faulty, with a bit of correct for each correct head (bit 0 for
@@ -50,6 +55,24 @@ enum {
  * words are. */
 uint32_t daisarnica_write_sheet(uint32_t n, uint32_t f, uint32_t correct, uint32_t drift, uint32_t tightness,
                                 const uint32_t *numbers, size_t count, uint32_t *out, size_t out_words);
+
+/* Drafts a sheet to practise with before a bench is wired: the faultless round of n heads, with f in its first word and
+ * drift and tightness 0, into the buffer out of out_words words. All heads are correct, every clock shows the real time,
+ * every frame is delivered, and every head takes all six timed actions: 1 by all, the starts' deliveries, 3 by all; 4 by
+ * head 0, its vote's deliveries, 4 by the others, their votes' deliveries, 6 by all; 7, the adjusts and 9 in the same
+ * manner. Senders and then receivers rise by number.
+ *
+ * The first entry is at the real time first; from each entry to the next it moves on by spacing, which may be 0, but the
+ * deliveries of one frame share theirs: there are 9 n real times. The sheet has DAISARNICA_DRAFT_WORDS(n) words; words
+ * behind it are left as they were.
+ *
+ * Returns 0 or a cause: the first that applies of 3, 13 and 5, in this order. Nothing is written then. The last real time,
+ * first + spacing * (9 n - 1), is not wrapped.
+ *
+ * If it returns 0, the judge finds every premise kept: daisarnica_replay_and_judge returns 0 for the sheet. This is proved
+ * for all n, f, first and spacing. */
+uint32_t daisarnica_draft_sheet(uint32_t n, uint32_t f, uint32_t first, uint32_t spacing, uint32_t *out,
+                                size_t out_words);
 
 /* Where the numbers of an answer stand. A cause is 1 to 9; its place is the index of the refused entry's first word, and
  * 0 for what concerns the sheet as a whole. Each number is 0 where there is none. */

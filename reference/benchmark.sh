@@ -1,6 +1,6 @@
 #!/bin/sh
-# Replay and judge of one sheet, and its recording from numbers, by the proved static library and by the reference (replay
-# and judge by its fast form), both built for release and called by one program on the same sheets. Prints time and
+# Replay and judge of one sheet, its recording from numbers, and drafts, by the proved static library and by the reference
+# (replay and judge by its fast form), both built for release and called by one program on the same sheets. Prints time and
 # instructions of one call and their ratios; the reference is measured with overflow checks (as it is tested) and without.
 set -eu
 cd "$(dirname "$0")/.."
@@ -25,6 +25,11 @@ instructions() {
     echo $(((many - few) / 10))
 }
 
+# count PROFILE WHAT SHEET: of both forms
+count() {
+    echo "$1 $2 $3 $(instructions "$1" "$3" "$2") $(instructions "$1" "$3" "$2-reference")" >>"$work/count"
+}
+
 # table TITLE FILE WHAT: from lines of profile, what is done, sheet, proved and reference
 table() {
     echo "| $1 | Overflow checks in the reference | Proved | Reference | Ratio |"
@@ -36,9 +41,10 @@ for profile in release speed; do
     "target/$profile/benchmark" | sed "s/^/$profile /" >>"$work/time"
     for sheet in m1 three five full starts; do
         for what in replay record; do
-            echo "$profile $what $sheet $(instructions $profile $sheet $what) $(instructions $profile $sheet $what-reference)" >>"$work/count"
+            count $profile $what $sheet
         done
     done
+    for heads in 2 5 8 16; do count $profile draft $heads; done
 done
 for sheet in m1 three five full starts; do
     echo "$sheet $(instructions speed $sheet tests) $(instructions speed $sheet record)" >>"$work/parts"
@@ -58,3 +64,9 @@ echo
 echo "| Instructions | Tests alone | Tests and writing |"
 echo "|---|---|---|"
 awk '{ printf "| %s | %d | %d |\n", $1, $2, $3 }' "$work/parts"
+echo
+echo "Drafts, by the number of heads:"
+echo
+table Nanoseconds "$work/time" draft
+echo
+table Instructions "$work/count" draft

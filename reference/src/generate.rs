@@ -2,12 +2,13 @@
 //! first, sheets that are turned back by a wanted cause, and damaged ones.
 
 use crate::cover::{closed_reasons, BRANCHES};
+use crate::draft::{draft, room, steps};
 use crate::fast;
 use crate::random::Random;
 use crate::round::round;
 use crate::sheet::run;
 use crate::words::{to_bytes, write_entry, write_sheet, Cause, Entry, RealTime};
-use crate::words::{MAX_ENTRIES, MAX_HEADS, MAX_WORDS};
+use crate::words::{MAX_ENTRIES, MAX_HEADS, MAX_WORDS, TIME_LIMIT};
 
 /// What a sheet was made for.
 #[derive(Clone, Copy, Debug, PartialEq, Eq)]
@@ -67,9 +68,28 @@ fn draw_cause(random: &mut Random) -> u32 {
     random.pick(&causes)
 }
 
+/// n, f, first real time and spacing of a sheet that can be drafted, the times often
+/// at an edge.
+pub fn draftable(random: &mut Random) -> [u32; 4] {
+    let n = 2 + random.below(15) as u32;
+    let f = random.below(u64::from((n - 1) / 2) + 1) as u32;
+    let longest = (TIME_LIMIT - 1) / steps(n);
+    let any = random.below(u64::from(longest) + 1) as u32;
+    let spacing = random.pick(&[0, 1, 100, longest, any]);
+    let latest = TIME_LIMIT - 1 - spacing * steps(n);
+    let any = random.below(u64::from(latest) + 1) as u32;
+    [n, f, random.pick(&[0, latest, any]), spacing]
+}
+
 /// The words and n of a sheet that is accepted with this first broken premise,
 /// as the fast form says; [`crate::cover`] holds the plain form to it.
 pub fn accepted(random: &mut Random, premise: u32) -> (Vec<u32>, u32) {
+    if premise == 0 && random.chance(1, 16) {
+        let [n, f, first, spacing] = draftable(random);
+        let mut words = vec![0; room(n)];
+        draft(n, f, first, spacing, &mut words).expect("it can be drafted");
+        return (words, n);
+    }
     loop {
         let Some((settings, entries)) = round(random, premise) else {
             continue;

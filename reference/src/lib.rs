@@ -9,6 +9,7 @@ pub mod board;
 pub mod claim;
 pub mod counter;
 pub mod cover;
+pub mod draft;
 pub mod fast;
 pub mod generate;
 pub mod judge;

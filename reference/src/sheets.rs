@@ -1,5 +1,5 @@
-//! A whole sheet at the proved static library, beside the reference; and one that
-//! the library writes.
+//! A whole sheet at the proved static library, beside the reference; and those that
+//! the library writes or drafts.
 
 use crate::fast;
 use crate::judge::judge;
@@ -30,6 +30,15 @@ extern "C" {
         out: *mut u32,
         out_words: usize,
     ) -> u32;
+
+    fn daisarnica_draft_sheet(
+        n: u32,
+        f: u32,
+        first: u32,
+        spacing: u32,
+        out: *mut u32,
+        out_words: usize,
+    ) -> u32;
 }
 
 /// One call of the library's recorder: 0 or the cause. `given` is n, f, correct
@@ -40,6 +49,14 @@ pub fn proved_recording(given: &[u32; 5], numbers: &[u32], out: &mut [u32]) -> u
     let (count, room) = (numbers.len(), out.len());
     // The pointers are to slices of the lengths that are given.
     unsafe { daisarnica_write_sheet(n, f, correct, drift, tightness, list, count, buffer, room) }
+}
+
+/// One call of the library's drafter: 0 or the cause. `given` is n, f, the first real
+/// time and the spacing.
+pub fn proved_draft(given: &[u32; 4], out: &mut [u32]) -> u32 {
+    let [n, f, first, spacing] = *given;
+    // The pointer is to a slice of the length that is given.
+    unsafe { daisarnica_draft_sheet(n, f, first, spacing, out.as_mut_ptr(), out.len()) }
 }
 
 /// One call of the library: the judge's number, and the five numbers of both answers.

@@ -14,14 +14,13 @@ use Rattle.protocol.specs.Step.{hasMark}
 use Rattle.protocol.specs.Row.{rowOf}
 use Rattle.protocol.specs.Run.{History, recordOf}
 use Rattle.protocol.specs.Premises.{took, premise4}
-use Rattle.protocol.proofs.Valid.{closed-took}
+use Rattle.protocol.proofs.Valid.{turn-took, closed-took}
 use Rattle.head_open.proofs.Marks.{has-vote-closed, has-adjust-turn, has-adjust-closed}
 use Rattle.sheet_state.specs.Arrays.{Stands}
 use Rattle.sheet_state.proofs.Standing.{valid-history, row-at}
 use Rattle.data_sets.proofs.Loops.{all-more, all-fails}
 use Rattle.judge_premise_3.proofs.Times.{all-same}
 use Rattle.judge_premise_3.proofs.Accepted.{few-heads}
-use Rattle.judge_premises_5_to_8.proofs.Reached.{adjust-turn-took}
 
 -- what the marks say after actions 6, 7 and 9
 abbrev pub marksEnded : ℕ → Bool
@@ -59,7 +58,7 @@ module _ {ws : List ℕ} {i : ℕ} {s : History} {heads : List (List ℕ)} (now 
       let v = valid-history now in
       ap (λ (p : ℕ). marksEnded (getD (getD heads p []) 1 0)) (omega arith) ∙ ap (λ (row : List ℕ). marksEnded (getD row 1 0)) (row-at now q l)
       ∙ ap₂ _&&_ (has-vote-closed (recordOf g s q) ∙ closed-took g votes v q)
-      (ap₂ _&&_ (has-adjust-turn (recordOf g s q) ∙ adjust-turn-took g v q) (has-adjust-closed (recordOf g s q) ∙ closed-took g adjusts v q))
+      (ap₂ _&&_ (has-adjust-turn (recordOf g s q) ∙ turn-took g adjusts v q) (has-adjust-closed (recordOf g s q) ∙ closed-took g adjusts v q))
 
   pub premise-4-is : allBelow (g .n) (isEnded g heads) ≡ premise4 g s
   unfolding premise4

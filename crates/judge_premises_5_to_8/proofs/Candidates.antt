@@ -51,7 +51,7 @@ module _ {g : Setting} where
           (λ x. or-second (took 4 q (e ∷ s)) _ (or-second (takes 5 q e) _ x))
 
       new : (c : ℕ) → Origin g votes s e c → (took 4 (e .entry .head) (e ∷ s) || took 5 (e .entry .head) (e ∷ s)) ≡ true
-      new c (own _ _ x) = or-first (took 4 (e .entry .head) (e ∷ s)) _ (sym (turn-took g (more t v) (e .entry .head)) ∙ x)
+      new c (own _ _ x) = or-first (took 4 (e .entry .head) (e ∷ s)) _ (sym (turn-took g votes (more t v) (e .entry .head)) ∙ x)
       new c (reached x _) = or-second (took 4 (e .entry .head) (e ∷ s)) _ (rw (eqb-same (e .entry .head), x) refl)
 
       at-head : Turn g votes s e → (held g votes s (e .entry .head) ≡ SomeNumber c → (took 4 (e .entry .head) s || took 5 (e .entry .head) s) ≡ true)
@@ -66,10 +66,10 @@ module _ {g : Setting} where
       (λ t. or-cases (isNumber (recordOf g s p .vote .choice)) _ t
       (λ x. let m = number-in (recordOf g s p .vote .choice) x in
       or-cases (took 4 p s) (took 5 p s) (candidate-came v p (m .0) (m .1)) turned (λ y. or-first (took 5 p s) _ y))
-      (λ x. turned (sym (turn-took g v p) ∙ x)))
+      (λ x. turned (sym (turn-took g votes v p) ∙ x)))
       (λ t. or-cases (took 5 p s) _ t
       (λ x. let m = delivered-choice g votes (H .few) v p x not-closed in or-first (isNumber (recordOf g s p .vote .choice)) _ (ap isNumber (m .1)))
-      (λ x. or-second (isNumber (recordOf g s p .vote .choice)) _ (turn-took g v p ∙ and-right (took 3 p s) _ (and-right (took 1 p s) _ x))))
+      (λ x. or-second (isNumber (recordOf g s p .vote .choice)) _ (turn-took g votes v p ∙ and-right (took 3 p s) _ (and-right (took 1 p s) _ x))))
     where
       not-closed : recordOf g s p .vote .closed ≡ false
       not-closed = closed-took g votes v p ∙ cases (took 6 p s) (λ t. absurd-bool (correct-took g 6 p s c t) unclosed) (λ t. t)
@@ -77,5 +77,5 @@ module _ {g : Setting} where
       turned : took 4 p s ≡ true → (took 5 p s || (took 1 p s && (took 3 p s && took 4 p s))) ≡ true
       turned h =
           let marks = run-in-range (H .fit) v p (H .below p c) .marks in
-          let confirmed = marks .turn (turn-took g v p ∙ h) in
+          let confirmed = marks .turn (turn-took g votes v p ∙ h) in
           or-second (took 5 p s) _ (and-both (sym (started-took g v p) ∙ marks .confirmed confirmed) (and-both (sym (confirmed-took g v p) ∙ confirmed) h))

@@ -15,13 +15,13 @@ use Rattle.protocol.specs.declared.HeadRecord.{HeadRecord}
 use Rattle.protocol.specs.declared.Setting.{Setting}
 use Rattle.protocol.specs.Base.{_⇒_, any, allBelow}
 use Rattle.protocol.specs.Words.{isCorrect, settingAt}
-use Rattle.protocol.specs.Record.{Kind, votes, adjusts, phaseOf, isNumber, marksNumber, fresh}
+use Rattle.protocol.specs.Record.{Kind, votes, adjusts, phaseOf, isNumber, marksNumber}
 use Rattle.protocol.specs.Step.{hasMark}
 use Rattle.protocol.specs.Row.{numberPlus1, rowOf}
 use Rattle.protocol.specs.Run.{History, recordOf}
 use Rattle.protocol.specs.Premises.{delivery, took, received, correctAll, correctCloses, framesReached, votesReached, adjustsReached}
 use Rattle.protocol.proofs.Tests.{not-true, not-false}
-use Rattle.protocol.proofs.Valid.{Valid, mark-took, started-took}
+use Rattle.protocol.proofs.Valid.{Valid, started-took, turn-took}
 use Rattle.protocol.proofs.Ranges.{votes-below}
 use Rattle.sheet_state.specs.Arrays.{Stands}
 use Rattle.sheet_state.proofs.Standing.{valid-history, row-at}
@@ -45,10 +45,6 @@ sentIndex adjusts = 5
 other-kind : (phase : ℕ) → phase ≢ 0 → phaseKind phase ≡ adjusts
 other-kind zero n = absurd (n refl)
 other-kind (suc phase) n = refl
-
-pub adjust-turn-took : (g : Setting) {s : History} → Valid g s → (q : ℕ) → recordOf g s q .adjust .turn ≡ took 7 q s
-unfolding fresh
-adjust-turn-took g = mark-took g (λ l. getD l 4 false) 7 refl (λ r i. refl)
 
 -- a correct head p, whose row stands at i
 module _ {ws : List ℕ} {j : ℕ} {s : History} {rows : List (List ℕ)} (S : Stands ws j s rows) {g : Setting} (g-is : g ≡ settingAt ws) (p : ℕ) (c : isCorrect g p ≡ true) (i : ℕ) (i-is : i ≡ p % 16) where
@@ -108,7 +104,7 @@ module _ {ws : List ℕ} {j : ℕ} {s : History} {rows : List (List ℕ)} (S : S
   start-is = ap (λ (x : ℕ). hasMark x 1) marks-are ∙ has-started r ∙ started-took g v p
 
   adjust-turn-is : hasMark (number 1) 16 ≡ took 7 p s
-  adjust-turn-is = ap (λ (x : ℕ). hasMark x 16) marks-are ∙ has-adjust-turn r ∙ adjust-turn-took g v p
+  adjust-turn-is = ap (λ (x : ℕ). hasMark x 16) marks-are ∙ has-adjust-turn r ∙ turn-took g adjusts v p
 
   module _ (phase : ℕ) {sets : List ℕ} (sets-are : sets ≡ receiverSets s) where
     votes-by-row : phase ≡ 0 → any (correctCloses g (phaseKind phase)) s ≡ false

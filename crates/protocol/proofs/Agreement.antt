@@ -21,7 +21,7 @@ use Rattle.protocol.specs.Premises.{takes, receives, took, received, cor
 use Rattle.protocol.specs.Claim.{CorrectHead}
 use Rattle.protocol.proofs.Tests.{absurd-bool, cases, and-left, and-right, and-both, or-second, or-left, or-cases, implied, not-false, count-mono}
 use Rattle.protocol.proofs.Moments.{Earlier, now, earlier-trans, earlier-past, any-grows, any-map, find, each-at}
-use Rattle.protocol.proofs.Effects.{votes, adjusts, number, prepared, Sending, nothing, adjusting, send, sendingOf, namedIn, chosenBy, chosen-closed, allowed, naming, closed-last, prepared-same, none-is-some, own-kept, own-unsent, own-sent}
+use Rattle.protocol.proofs.Effects.{votes, adjusts, number, prepared, Sending, nothing, adjusting, send, sendingOf, namedIn, chosenBy, chosen-closed, allowed, naming, closed-last, prepared-same, none-is-some, some-number, own-kept, own-unsent, own-sent}
 use Rattle.protocol.proofs.Valid.{baseOf, Valid, start, more, valid-past, valid-taken, valid-earlier, Taken, record-at, record-other, by-head, of-effect, fixed, closed-took, turn-took}
 use Rattle.protocol.proofs.Ranges.{run-in-range}
 use Rattle.protocol.proofs.Phases.{held, held-other, own, turn, phase-at, delivered-choice, held-sent, falls-later}
@@ -72,6 +72,63 @@ turn-adjusts r v e l k = go (mayAdjust (prepared r AdjustTurn)) _ refl
         let enough : leb 1 (length (voteReadings (prepared r AdjustTurn) (r .n))) ≡ true = le-leb 1 (length (voteReadings (prepared r AdjustTurn) (r .n))) (some-reading (prepared r AdjustTurn) (r .n) (r .own) l k) in
         let free : not (isNumber (r .adjust .choice)) ≡ true = rw y refl in
         absurd-bool (and-both candidate (and-both free enough)) u)
+
+module _ (g : Setting) where
+  -- a head with a candidate and a vote reading of its own has an adjuster after its adjust turn
+  pub adjuster-from-turn : {s : History} (e : Event) → Taken g s e → Valid g s → (c : ℕ) → held g votes s (e .entry .head) ≡ SomeNumber c
+      → isReading (voteOf (recordOf g s (e .entry .head)) (e .entry .head)) ≡ true → e .entry .action ≡ 7 → isNumber (held g adjusts (e ∷ s) (e .entry .head)) ≡ true
+  adjuster-from-turn {s} e t v c h k a =
+      let is = is-adjust-turn (t .action) (t .asked .number-is ∙ a) in
+      let fx = fixed g v (e .entry .head) in
+      subst (λ (z : HeadRecord). isNumber (z .adjust .choice) ≡ true) (sym (record-at g e s)) (of-effect g (λ y. isNumber (y .after .adjust .choice) ≡ true) t
+      (subst (λ (i : Action). isNumber (send (sendingOf (baseOf g s e) i) (prepared (baseOf g s e) i) .after .adjust .choice) ≡ true) (sym is)
+      (turn-adjusts (baseOf g s e) c h (rw (fx .own-is, fx .n-is) (t .head-below)) (subst (λ (q : ℕ). isReading (voteOf (recordOf g s (e .entry .head)) q) ≡ true) (sym (fx .own-is)) k))))
+
+  -- what an event does to its head's own vote reading: nothing, or it is the start reading of the candidate voted for
+  pub data OwnReading (s : History) (e : Event) : Type 0 where
+    same-reading : held g votes (e ∷ s) (e .entry .head) ≡ held g votes s (e .entry .head)
+        → voteOf (recordOf g (e ∷ s) (e .entry .head)) (e .entry .head) ≡ voteOf (recordOf g s (e .entry .head)) (e .entry .head) → OwnReading s e
+    new-reading : (c : ℕ) → held g votes (e ∷ s) (e .entry .head) ≡ SomeNumber c → recordOf g (e ∷ s) (e .entry .head) .vote .closed ≡ false
+        → voteOf (recordOf g (e ∷ s) (e .entry .head)) (e .entry .head) ≡ startOf (recordOf g (e ∷ s) (e .entry .head)) c → OwnReading s e
+
+  pub own-reading-at : g .n ≤ 16 → {s : History} {e : Event} → Taken g s e → Valid g s → OwnReading s e
+  own-reading-at small {s} {e} t v = go (namedIn votes x) refl
+    where
+      x : Sending
+      x = sendingOf (baseOf g s e) (t .action)
+
+      m : HeadRecord
+      m = prepared (baseOf g s e) (t .action)
+
+      is-open : isClosed (baseOf g s e) (t .action) ≡ false
+      is-open = closed-last _ _ (t .action) ∙ t .is-open
+
+      own-is : m .own ≡ e .entry .head
+      own-is = fixed g v (e .entry .head) .own-is
+
+      own-below : m .own < length (m .senders)
+      own-below =
+          let size = prepared-same (baseOf g s e) (t .action) .size ∙ fixed g v (e .entry .head) .size-is in
+          let eq = own-is in let l = t .head-below in let z = small in omega arith
+
+      -- a reading of the record after the sending
+      reads : (f : HeadRecord → OptReading) → voteOf (send x m .after) (m .own) ≡ f (send x m .after)
+          → voteOf (recordOf g (e ∷ s) (e .entry .head)) (e .entry .head) ≡ f (recordOf g (e ∷ s) (e .entry .head))
+      reads f u =
+          rw (record-at g e s) (of-effect g (λ y. voteOf (y .after) (e .entry .head) ≡ f (y .after)) t
+          (subst (λ (q : ℕ). voteOf (send x m .after) q ≡ f (send x m .after)) own-is u))
+
+      choice : held g votes (e ∷ s) (e .entry .head) ≡ chosenBy (namedIn votes x) (m .vote) .choice
+      choice = ap (λ (p : Phase). p .choice) (phase-at g votes t)
+
+      go : (n : OptNumber) → namedIn votes x ≡ n → OwnReading s e
+      go NoNumber u =
+          same-reading (choice ∙ rw u refl)
+          (reads (λ _. voteOf (recordOf g s (e .entry .head)) (e .entry .head)) (own-unsent x m u ∙ own-kept (baseOf g s e) (t .action) is-open ∙ ap (voteOf (recordOf g s (e .entry .head))) own-is))
+      go (SomeNumber c) u =
+          new-reading c (choice ∙ rw u refl)
+          (ap (λ (p : Phase). p .closed) (phase-at g votes t) ∙ chosen-closed (namedIn votes x) (m .vote) ∙ naming votes (allowed (baseOf g s e) (t .action) is-open) u .stays-open)
+          (reads (λ y. startOf y c) (own-sent x m c own-below u))
 
 module _ {g : Setting} {h : History} (r : Round g h) where
   -- the adjust phase closes after the vote phase
@@ -125,7 +182,7 @@ module _ {g : Setting} {h : History} (r : Round g h) where
     unfolding startsHeld
     impossible =
         let v = valid-moment r votes in
-        let turned = turn-took g v q ∙ and-right (took 3 q V₁) _ (and-right (took 1 q V₁) _ (took-all c)) in
+        let turned = turn-took g votes v q ∙ and-right (took 3 q V₁) _ (and-right (took 1 q V₁) _ (took-all c)) in
         let few = waits g (r .sheet .at-most-16) v q turned (still-open r votes now c) none in
         let fx = fixed g v q in
         let many : countBelow (g .n) (isCorrect g) ≤ startsHeld (recordOf g V₁ q) = rw (fx .n-is) (count-mono (g .n) (isCorrect g) (λ p. isReading (startOf (recordOf g V₁ q) p)) start-held) in
@@ -177,61 +234,15 @@ module _ {g : Setting} {h : History} (r : Round g h) where
       let v = valid-earlier x (r .sheet .valid) in
       start-found g (r .sheet .at-most-16) v q c (any-grows (receives 2 c 0 q) (earlier-past (k .there)) (k .reached-all cq)) (adjust-later v q (cq .is-head) o)
 
-  -- what an event does to its head's own vote reading: nothing, or it is the start reading of the candidate voted for
-  pub data OwnReading (s : History) (e : Event) : Type 0 where
-    same-reading : held g votes (e ∷ s) (e .entry .head) ≡ held g votes s (e .entry .head)
-        → voteOf (recordOf g (e ∷ s) (e .entry .head)) (e .entry .head) ≡ voteOf (recordOf g s (e .entry .head)) (e .entry .head) → OwnReading s e
-    new-reading : (c : ℕ) → held g votes (e ∷ s) (e .entry .head) ≡ SomeNumber c → recordOf g (e ∷ s) (e .entry .head) .vote .closed ≡ false
-        → voteOf (recordOf g (e ∷ s) (e .entry .head)) (e .entry .head) ≡ startOf (recordOf g (e ∷ s) (e .entry .head)) c → OwnReading s e
-
-  own-reading-at : {s : History} {e : Event} → Taken g s e → Valid g s → OwnReading s e
-  own-reading-at {s} {e} t v = go (namedIn votes x) refl
-    where
-      x : Sending
-      x = sendingOf (baseOf g s e) (t .action)
-
-      m : HeadRecord
-      m = prepared (baseOf g s e) (t .action)
-
-      is-open : isClosed (baseOf g s e) (t .action) ≡ false
-      is-open = closed-last _ _ (t .action) ∙ t .is-open
-
-      own-is : m .own ≡ e .entry .head
-      own-is = fixed g v (e .entry .head) .own-is
-
-      own-below : m .own < length (m .senders)
-      own-below =
-          let size = prepared-same (baseOf g s e) (t .action) .size ∙ fixed g v (e .entry .head) .size-is in
-          let eq = own-is in let l = t .head-below in let z = r .sheet .at-most-16 in omega arith
-
-      -- a reading of the record after the sending
-      reads : (f : HeadRecord → OptReading) → voteOf (send x m .after) (m .own) ≡ f (send x m .after)
-          → voteOf (recordOf g (e ∷ s) (e .entry .head)) (e .entry .head) ≡ f (recordOf g (e ∷ s) (e .entry .head))
-      reads f u =
-          rw (record-at g e s) (of-effect g (λ y. voteOf (y .after) (e .entry .head) ≡ f (y .after)) t
-          (subst (λ (q : ℕ). voteOf (send x m .after) q ≡ f (send x m .after)) own-is u))
-
-      choice : held g votes (e ∷ s) (e .entry .head) ≡ chosenBy (namedIn votes x) (m .vote) .choice
-      choice = ap (λ (p : Phase). p .choice) (phase-at g votes t)
-
-      go : (n : OptNumber) → namedIn votes x ≡ n → OwnReading s e
-      go NoNumber u =
-          same-reading (choice ∙ rw u refl)
-          (reads (λ _. voteOf (recordOf g s (e .entry .head)) (e .entry .head)) (own-unsent x m u ∙ own-kept (baseOf g s e) (t .action) is-open ∙ ap (voteOf (recordOf g s (e .entry .head))) own-is))
-      go (SomeNumber c) u =
-          new-reading c (choice ∙ rw u refl)
-          (ap (λ (p : Phase). p .closed) (phase-at g votes t) ∙ chosen-closed (namedIn votes x) (m .vote) ∙ naming votes (allowed (baseOf g s e) (t .action) is-open) u .stays-open)
-          (reads (λ y. startOf y c) (own-sent x m c own-below u))
-
   pub own-reading : {s : History} → Valid g s → Earlier s h → (q c : ℕ) → CorrectHead g q → held g votes s q ≡ SomeNumber c → isReading (voteOf (recordOf g s q) q) ≡ true
   unfolding recordOf fresh
   own-reading start x q c = λ cq t. none-is-some t
   own-reading (more {e = e} {s = s} t v) x q c =
       by-head (λ q. CorrectHead g q → held g votes (e ∷ s) q ≡ SomeNumber c → isReading (voteOf (recordOf g (e ∷ s) q) q) ≡ true) e q
-      (λ cq u. go cq u (own-reading-at t v) (own-reading v (earlier-past x) (e .entry .head) c cq))
+      (λ cq u. go cq u (own-reading-at g (r .sheet .at-most-16) t v) (own-reading v (earlier-past x) (e .entry .head) c cq))
       (λ d cq u. rw (record-other g e s q d) (own-reading v (earlier-past x) q c cq (sym (held-other g votes e s q d) ∙ u)))
     where
-      go : CorrectHead g (e .entry .head) → held g votes (e ∷ s) (e .entry .head) ≡ SomeNumber c → OwnReading s e
+      go : CorrectHead g (e .entry .head) → held g votes (e ∷ s) (e .entry .head) ≡ SomeNumber c → OwnReading g s e
           → (held g votes s (e .entry .head) ≡ SomeNumber c → isReading (voteOf (recordOf g s (e .entry .head)) (e .entry .head)) ≡ true)
           → isReading (voteOf (recordOf g (e ∷ s) (e .entry .head)) (e .entry .head)) ≡ true
       go cq u (same-reading hs vs) ih = rw vs (ih (sym hs ∙ u))
@@ -254,22 +265,14 @@ module _ {g : Setting} {h : History} (r : Round g h) where
       let shut = not-false (or-left (not (recordOf g s (e .entry .head) .vote .closed)) _ (subst (λ (i : Action). isClosed (recordOf g s (e .entry .head)) i ≡ false) is (t .is-open))) in
       let begun = took-correct 6 s c (sym (closed-took g votes (valid-past v) (e .entry .head)) ∙ shut) in
       let candidate = candidate-stays (earlier-past x) begun c in
-      let fx = fixed g (valid-past v) (e .entry .head) in
-      subst (λ (z : HeadRecord). isNumber (z .adjust .choice) ≡ true) (sym (record-at g e s)) (of-effect g (λ y. isNumber (y .after .adjust .choice) ≡ true) t
-      (subst (λ (i : Action). isNumber (send (sendingOf (baseOf g s e) i) (prepared (baseOf g s e) i) .after .adjust .choice) ≡ true) (sym is)
-      (turn-adjusts (baseOf g s e) _ candidate (rw (fx .own-is, fx .n-is) (c .is-head))
-      (subst (λ (q : ℕ). isReading (voteOf (recordOf g s (e .entry .head)) q) ≡ true) (sym (fx .own-is)) (own-reading (valid-past v) (earlier-past x) (e .entry .head) _ c candidate)))))
-
-  is-some : (m : OptNumber) → isNumber m ≡ true → (w : ℕ) × (m ≡ SomeNumber w)
-  is-some NoNumber e = absurd-bool e refl
-  is-some (SomeNumber w) e = (w, refl)
+      adjuster-from-turn g e t (valid-past v) _ candidate (own-reading (valid-past v) (earlier-past x) (e .entry .head) _ c candidate) a
 
   pub has-adjuster : (q : ℕ) → CorrectHead g q → (w : ℕ) × (held g adjusts (moment r adjusts) q ≡ SomeNumber w)
   has-adjuster q c =
       let f = find (takes 7 q) (moment r adjusts) (adjusts-reached r c .0) in
       let is : f .event .entry .head ≡ q = eqb-true _ q (and-left (eqb (f .event .entry .head) q) _ (f .holds)) in
       let seven = eqb-true _ 7 (and-right (eqb (f .event .entry .head) q) _ (f .holds)) in
-      let w = is-some _ (adjuster-after-turn (f .event) (earlier-trans (f .there) (moment-earlier r adjusts)) (subst (CorrectHead g) (sym is) c) seven) in
+      let w = some-number _ (adjuster-after-turn (f .event) (earlier-trans (f .there) (moment-earlier r adjusts)) (subst (CorrectHead g) (sym is) c) seven) in
       let b = falls-later g adjusts (f .there) (valid-moment r adjusts) (f .event .entry .head) (w .0) (record { choice = w .0; holds = w .1; low = omega arith }) in
       (b .choice, subst (λ (p : ℕ). held g adjusts (moment r adjusts) p ≡ SomeNumber (b .choice)) is (b .holds))
 

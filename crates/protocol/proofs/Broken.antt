@@ -2,14 +2,13 @@
 -- nothing. A run's history has as many events as it has entries.
 -- Main results: `prior`, `run-length`; `kept-on`, `fails-now`, `failed-before`, `stays-failed`.
 use mathlib.Core.Path.{_≡_, refl, sym, _∙_, ap, subst}
-use mathlib.Core.Bool.{Bool, true, false, cond}
-use mathlib.Core.List.{List, [], _∷_}
+use mathlib.Core.Bool.{Bool, true, false}
+use mathlib.Core.List.{List, _∷_}
 use Prim.Native.Nat.{ℕ, zero, suc, _+_, _<_}
 use native.Mathlib.Omega.{arith}
-use lib.Dec.{eqb}
 use lib.ListN.{length}
 use borrow.Author.Tests.{eq-eqb, ne-eqb}
-use Rattle.protocol.specs.Types.{Setting, Entry, Verdict, Accepted, Refused, Stepped}
+use Rattle.protocol.specs.Types.{Setting, Verdict, Accepted, Refused, Stepped}
 use Rattle.protocol.specs.Words.{settingAt, placeOf, entryAt, entryFitsAt}
 use Rattle.protocol.specs.Run.{Event, History, Run, stopped, ran, stepEntry, extend, andThen, runOf}
 use Rattle.protocol.specs.Premises.{keptUpTo}

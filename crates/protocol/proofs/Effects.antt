@@ -317,6 +317,10 @@ allowed r AdjustClose e = sends-nothing
 pub none-is-some {ℓ} : {A : Type ℓ} {c : ℕ} → NoNumber ≡ SomeNumber c → A
 none-is-some e = absurd (let z : _≡_ {A = ℕ} 0 1 = cc in omega arith)
 
+pub some-number : (m : OptNumber) → isNumber m ≡ true → (c : ℕ) × (m ≡ SomeNumber c)
+some-number NoNumber e = absurd-bool e refl
+some-number (SomeNumber c) e = (c, refl)
+
 pub same-number : {c v : ℕ} → SomeNumber c ≡ SomeNumber v → c ≡ v
 same-number e = cc
 

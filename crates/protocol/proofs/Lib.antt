@@ -24,3 +24,9 @@ pub mod ThirdPoint
 pub mod ResultWords
 pub mod Attained
 pub mod Marked
+pub mod DraftRoom
+pub mod DraftOrder
+pub mod DraftPast
+pub mod DraftPremises
+pub mod DraftRun
+pub mod Drafts

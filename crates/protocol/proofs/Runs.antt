@@ -15,7 +15,7 @@ use Rattle.protocol.specs.Record.{isNumber, fresh}
 use Rattle.protocol.specs.Step.{withLast, vote, adjust, mayLead, mayAdjust, outranks, effect, isClosed, takeAction, actionOf}
 use Rattle.protocol.specs.Run.{Event, History, recordOf, isDeliveredBy, orElse, frameSent, frameOf, isFrame, inputOf, lastTime, stepEntry, stopped, ran, andThen, runOf}
 use Rattle.protocol.proofs.Tests.{absurd-bool, cases, cond-elim, eqb-same}
-use Rattle.protocol.proofs.Effects.{Kind, votes, adjusts, phaseOf, delivery, number, named, passedOver, prepared, Sending, nothing, voting, adjusting, send, sendingOf, prepared-sent, phase-last}
+use Rattle.protocol.proofs.Effects.{Kind, votes, adjusts, phaseOf, delivery, number, named, some-number, passedOver, prepared, Sending, nothing, voting, adjusting, send, sendingOf, prepared-sent, phase-last}
 use Rattle.protocol.proofs.Effects as Effects
 use Rattle.protocol.proofs.Fits.{not-accepted}
 use Rattle.protocol.proofs.Valid.{baseOf, Taken, Valid, start, more, record-other, by-head, of-effect, frame-fits, started-took}
@@ -166,15 +166,11 @@ module _ (g : Setting) (k : Kind) where
   named-frame j (Vote i c x) h = refl
   named-frame j (Adjust i c x) h = refl
 
-  number-in : (m : OptNumber) → isNumber m ≡ true → (c : ℕ) × (m ≡ SomeNumber c)
-  number-in NoNumber h = absurd-bool h refl
-  number-in (SomeNumber c) h = (c, refl)
-
   -- the serials below the number of frames sent are those under which the head sent a frame
   pub sent-below : {s : History} → Valid g s → (p j : ℕ) → ltb j (sent g k s p) ≡ isFrame (frameSent s (delivery k) p j)
   sent-below {s} v p j =
       cases (isNumber (names g k s p j))
-      (λ t. let c = number-in (names g k s p j) t in lt-ltb j (sent g k s p) (serial-below g k v p j (c .0) (c .1)) ∙ sym t)
+      (λ t. let c = some-number (names g k s p j) t in lt-ltb j (sent g k s p) (serial-below g k v p j (c .0) (c .1)) ∙ sym t)
       (λ t. cases (ltb j (sent g k s p)) (λ u. absurd-bool (named-below v p j (ltb-true j (sent g k s p) u)) t) (λ u. u ∙ sym t))
       ∙ named-frame j (frameSent s (delivery k) p j) (frame-fits s (delivery k) p j)
 

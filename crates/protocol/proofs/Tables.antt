@@ -19,7 +19,7 @@ module _ {A : Type 0} where
   length-table f i zero = refl
   length-table f i (suc k) = ap suc (length-table f (suc i) k)
 
-  table-from : (f : ℕ → A) (i k j : ℕ) (d : A) → j < k → getD (table f i k) j d ≡ f (i + j)
+  pub table-from : (f : ℕ → A) (i k j : ℕ) (d : A) → j < k → getD (table f i k) j d ≡ f (i + j)
   table-from f i zero j d h = absurd (not-suc-le-zero h)
   table-from f i (suc k) zero d h = ap f (omega arith)
   table-from f i (suc k) (suc j) d h = table-from f (suc i) k j d (omega arith) ∙ ap f (omega arith)

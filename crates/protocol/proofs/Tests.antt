@@ -61,6 +61,9 @@ pub or-right : (a b : Bool) → (a || b) ≡ false → b ≡ false
 or-right true b e = absurd-bool refl e
 or-right false b e = e
 
+pub or-neither : {a b : Bool} → a ≡ false → b ≡ false → (a || b) ≡ false
+or-neither p q = rw p q
+
 pub or-cases {ℓ} : {P : Type ℓ} (a b : Bool) → (a || b) ≡ true → (a ≡ true → P) → (b ≡ true → P) → P
 or-cases true b e f g = f refl
 or-cases false b e f g = g e
@@ -76,6 +79,16 @@ pub implied : (a b : Bool) → (a ⇒ b) ≡ true → a ≡ true → b ≡ true
 implied true b e p = e
 implied false b e p = absurd-bool p refl
 
+pub implies : (a b : Bool) → (a ≡ true → b ≡ true) → (a ⇒ b) ≡ true
+implies true b f = f refl
+implies false b f = refl
+
+pub not-is-false : {b : Bool} → b ≡ true → not b ≡ false
+not-is-false p = rw p refl
+
+pub not-is-true : {b : Bool} → b ≡ false → not b ≡ true
+not-is-true p = rw p refl
+
 pub eqb-same : (n : ℕ) → eqb n n ≡ true
 eqb-same n = eq-eqb n n refl
 
@@ -88,6 +101,11 @@ all-below (suc n) p e k h =
 pub below-all : (n : ℕ) (p : ℕ → Bool) → ((k : ℕ) → k < n → p k ≡ true) → allBelow n p ≡ true
 below-all zero p h = refl
 below-all (suc n) p h = and-both (h n (omega arith)) (below-all n p (λ k l. h k (omega arith)))
+
+-- a count of numbers that all pass is that of all numbers
+pub count-all : (n : ℕ) (p : ℕ → Bool) → ((k : ℕ) → k < n → p k ≡ true) → countBelow n p ≡ n
+count-all zero p h = refl
+count-all (suc n) p h = let ih = count-all n p (λ k l. h k (omega arith)) in rw (h n (omega arith)) (omega arith)
 
 -- a count of more numbers is no smaller
 pub count-mono : (n : ℕ) (p q : ℕ → Bool) → ((k : ℕ) → k < n → p k ≡ true → q k ≡ true) → countBelow n p ≤ countBelow n q
@@ -121,6 +139,13 @@ module _ {A : Type 0} where
   pub all-in : (p : A → Bool) {x : A} {l : List A} → In x l → all p l ≡ true → p x ≡ true
   all-in p {x = x} first e = and-left (p x) _ e
   all-in p (next {y = y} m) e = all-in p m (and-right (p y) _ e)
+
+  pub in-nothing : {B : Type 0} {x : A} → In x [] → B
+  in-nothing m = absurd-bool (all-in (λ _. false) m refl) refl
+
+  pub in-cons : {B : Type 0} {x y : A} {l : List A} → In x (y ∷ l) → (x ≡ y → B) → (In x l → B) → B
+  in-cons first f g = f refl
+  in-cons (next m) f g = g m
 
 -- a test that holds all over a list holds at each index
 pub all-at : {A : Type 0} (t : A → Bool) (l : List A) (d : A) → all t l ≡ true → (i : ℕ) → i < length l → t (getD l i d) ≡ true

@@ -16,7 +16,7 @@ use Rattle.protocol.specs.Record.{keptOf, fresh, reading, readingOr0, is
 use Rattle.protocol.specs.Step.{withVoteReading, withLast, accepted, refused, effect, isClosed, takeAction, actionOf}
 use Rattle.protocol.specs.Causes.{sheetVerdict}
 use Rattle.protocol.specs.Run.{Event, History, recordOf, isDeliveredBy, orElse, frameSent, frameOf, isFrame, carriedChoice, carriedReading, inputOf, lastTime, stepEntry, Run, stopped, ran, extend, andThen, runOf, afterVerdict, runSheet}
-use Rattle.protocol.specs.Premises.{took}
+use Rattle.protocol.specs.Premises.{turning, took}
 use Rattle.protocol.proofs.Tests.{absurd-bool, cases, parts, and-left, and-right, or-left, or-right, not-false, eqb-same}
 use Rattle.protocol.proofs.Fits.{entry-fits, sheet-fits}
 use Rattle.protocol.proofs.Moments.{Earlier, now, later}
@@ -184,7 +184,7 @@ passed r x sent a h =
     }
 
 -- an entry that is taken after s
-taken-entry : (g : Setting) (s : History) (fits : Bool) (e : Entry) → (fits ≡ true → FittingEntry g e) → stepEntry g s fits e .verdict ≡ Accepted
+pub taken-entry : (g : Setting) (s : History) (fits : Bool) (e : Entry) → (fits ≡ true → FittingEntry g e) → stepEntry g s fits e .verdict ≡ Accepted
     → Taken g s (record { entry = e; after = stepEntry g s fits e .after; frame = stepEntry g s fits e .frame })
 unfolding stepEntry
 taken-entry g s fits e f h =
@@ -323,9 +323,10 @@ module _ (g : Setting) where
   unfolding fresh
   confirmed-took = mark-took (λ l. getD l 1 false) 3 refl (λ r i. refl)
 
-  pub turn-took : {s : History} → Valid g s → (q : ℕ) → recordOf g s q .vote .turn ≡ took 4 q s
+  pub turn-took : (k : Kind) {s : History} → Valid g s → (q : ℕ) → phaseOf k (recordOf g s q) .turn ≡ took (turning k) q s
   unfolding fresh
-  turn-took = mark-took (λ l. getD l 2 false) 4 refl (λ r i. refl)
+  turn-took votes = mark-took (λ l. getD l 2 false) 4 refl (λ r i. refl)
+  turn-took adjusts = mark-took (λ l. getD l 4 false) 7 refl (λ r i. refl)
 
   pub closed-took : (k : Kind) {s : History} → Valid g s → (q : ℕ) → phaseOf k (recordOf g s q) .closed ≡ took (closing k) q s
   unfolding fresh

@@ -10,9 +10,8 @@ use Rattle.protocol.specs.Base.{table}
 use Rattle.protocol.specs.Types.{Setting, Entry, Verdict, Accepted, Refused, BadFirstWord, ShortBuffer, TimeTooFar, Kept}
 use Rattle.protocol.specs.Words.{isTime, headsFit, hasSerial, hasSender, settingAt}
 use Rattle.protocol.specs.Spelling.{sheetOf}
-use Rattle.protocol.specs.Record.{Kind, votes, adjusts}
 use Rattle.protocol.specs.Run.{History, recordOf, ran, runSheet}
-use Rattle.protocol.specs.Premises.{delivery, judge}
+use Rattle.protocol.specs.Premises.{judge}
 use Rattle.protocol.specs.Claim.{Ending, endingOf}
 use Rattle.protocol.specs.Recorder.{settingFrom, entryFrom, Written, writeIf}
 
@@ -28,17 +27,13 @@ abbrev pub slots : ℕ → ℕ → ℕ → List Slot
 slots a from to = table (λ q. record { action = a; head = q }) from (to - from)
 
 -- "head 0's 4, its vote's deliveries, 4 by the others, their votes' deliveries"; "7 and the adjusts in the manner of 4 and the votes"
-abbrev pub turning : Kind → ℕ
-turning votes = 4
-turning adjusts = 7
-
-unfoldable pub phaseOrder : ℕ → Kind → List Slot
-phaseOrder n k = slots (turning k) 0 1 ++ (slots (delivery k) 0 1 ++ (slots (turning k) 1 n ++ slots (delivery k) 1 n))
+unfoldable pub phaseOrder : ℕ → ℕ → ℕ → List Slot
+phaseOrder n turn delivery = slots turn 0 1 ++ (slots delivery 0 1 ++ (slots turn 1 n ++ slots delivery 1 n))
 
 -- "The order is: 1 by all; the starts' deliveries, own included; 3 by all; [the votes]; 6 by all; [the adjusts]; 9 by all"
 unfoldable pub roundOrder : ℕ → List Slot
 roundOrder n =
-    slots 1 0 n ++ (slots 2 0 n ++ (slots 3 0 n ++ (phaseOrder n votes ++ (slots 6 0 n ++ (phaseOrder n adjusts ++ slots 9 0 n)))))
+    slots 1 0 n ++ (slots 2 0 n ++ (slots 3 0 n ++ (phaseOrder n 4 5 ++ (slots 6 0 n ++ (phaseOrder n 7 8 ++ slots 9 0 n)))))
 
 -- THE ENTRIES
 
@@ -113,6 +108,9 @@ pub record PlainRound (n : ℕ) (ws : List ℕ) : Type 0 where
   pub kept : judge ws ≡ Kept
   pub ends : {q : ℕ} → q < n → EndsPlain (endingOf (recordOf (settingAt ws) history q))
 
--- unless it was refused, the buffer begins with a plain round's sheet
+-- the buffer begins with the sheet of a plain round; so it is after each accepted call
+abbrev pub HoldsRound : ℕ → List ℕ → Type 0
+HoldsRound n out = PlainRound n (take (draftRoom n) out)
+
 abbrev pub Drafted : ℕ → Verdict → List ℕ → Type 0
-Drafted n v out = v ≡ Accepted → PlainRound n (take (draftRoom n) out)
+Drafted n v out = v ≡ Accepted → HoldsRound n out

@@ -12,7 +12,11 @@ use Rattle.protocol.specs.Record.{Kind, votes, adjusts}
 use Rattle.protocol.specs.Causes.{causeNumber}
 use Rattle.protocol.specs.Run.{Event, History, recordOf, Run, stopped, ran, runSheet}
 
--- the action that delivers a frame of a phase, and the one that closes the phase
+-- the action that is a phase's turn, the one that delivers a frame of the phase, and the one that closes it
+abbrev pub turning : Kind → ℕ
+turning votes = 4
+turning adjusts = 7
+
 abbrev pub delivery : Kind → ℕ
 delivery votes = 5
 delivery adjusts = 8

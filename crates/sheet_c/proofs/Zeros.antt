@@ -64,10 +64,10 @@ agrees-in-numbers ws out answer k r is number numbers claim k0 cause0 _ _ h e =
     let filled = filled-at-0 (r .replayed) (r .judged) (sym (ap (λ (l : List ℕ). getD l 0 0) numbers) ∙ cause0) in
     claim kept filled h e
 
--- and so for what the writer is for
+-- and so for what the writer and the draft are for
 accepted-at-0 : (v : Verdict) → verdictNumber v ≡ 0 → v ≡ Accepted
 accepted-at-0 Accepted e = refl
 accepted-at-0 (Refused c) e = absurd (omega (arith, e, cause-range c))
 
-pub recorded-if-accepted : (g : Setting) (xs out : List ℕ) (k : ℕ) (v : Verdict) → k ≡ verdictNumber v → Recorded g xs v out → RecordedIfAccepted g xs k out
-recorded-if-accepted g xs out k v number claim k0 = claim (accepted-at-0 v (sym number ∙ k0))
+pub if-accepted : {A : Type 0} (k : ℕ) (v : Verdict) → k ≡ verdictNumber v → (v ≡ Accepted → A) → k ≡ 0 → A
+if-accepted k v number claim k0 = claim (accepted-at-0 v (sym number ∙ k0))

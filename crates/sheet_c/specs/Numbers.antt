@@ -13,6 +13,7 @@ use Rattle.protocol.specs.Results.{replayedNumbers}
 use Rattle.protocol.specs.Premises.{judgedNumbers}
 use Rattle.protocol.specs.Claim.{AgreesInWords}
 use Rattle.protocol.specs.Recorder.{HoldsSheet}
+use Rattle.protocol.specs.Draft.{HoldsRound}
 
 -- the replay's cause and place, the judge's, and the first broken premise; each 0 where there is none
 abbrev pub answerNumbers : Replayed → Judged → List ℕ
@@ -33,6 +34,9 @@ abbrev pub AgreesInNumbers : List ℕ → ℕ → List ℕ → List ℕ → Type
 AgreesInNumbers ws k answer out =
     k ≡ 0 → _≡_ {A = ℕ} (getD answer 0 0) 0 → AgreesInWords ws (record { replayed = Filled; judged = Kept }) out
 
--- what the writer is for, where its number is 0
+-- what the writer and the draft are for, where their number is 0
 abbrev pub RecordedIfAccepted : Setting → List ℕ → ℕ → List ℕ → Type 0
 RecordedIfAccepted g xs k out = k ≡ 0 → HoldsSheet g xs out
+
+abbrev pub DraftedIfAccepted : ℕ → ℕ → List ℕ → Type 0
+DraftedIfAccepted n k out = k ≡ 0 → HoldsRound n out

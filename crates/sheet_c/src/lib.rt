@@ -1,9 +1,10 @@
-// What a program written in C calls to write a sheet, and to replay and judge one; include/daisarnica_sheet.h declares it.
+// What a program written in C calls to write or draft a sheet, and to replay and judge one; include/daisarnica_sheet.h declares it.
 use data_values::cause_number;
 use judge_sheet::replay_and_judge;
 use protocol::Judged;
 use protocol::Replayed;
 use protocol::Verdict;
+use sheet_draft::draft_sheet;
 use sheet_writer::write_sheet;
 ghost use mathlib.Core.Path.{_≡_};
 ghost use mathlib.Core.List.{_∷_};
@@ -12,7 +13,8 @@ ghost use Rattle.protocol.specs.Causes.{verdictNumber};
 ghost use Rattle.protocol.specs.Premises.{judge, judgedNumbers};
 ghost use Rattle.protocol.specs.Results.{replay, replayedNumbers};
 ghost use Rattle.protocol.specs.Recorder.{settingFrom, writeSheet};
-ghost use Rattle.sheet_c.specs.Numbers.{AgreesInNumbers, RecordedIfAccepted, answerNumbers, judgedNumber, placeIn};
+ghost use Rattle.protocol.specs.Draft.{draft};
+ghost use Rattle.sheet_c.specs.Numbers.{AgreesInNumbers, RecordedIfAccepted, DraftedIfAccepted, answerNumbers, judgedNumber, placeIn};
 
 // The judge's numbers behind the replay's cause and place.
 fn numbers_behind(cause: u32, place: u32, j: Judged) -> [u32; 5]
@@ -71,6 +73,22 @@ pub extern "C" fn daisarnica_write_sheet(
         × RecordedIfAccepted (settingFrom n f correct drift tightness) (now (numbers .entry)) k (now (out .exit)) ⌝ }
 {
     verdict_number(write_sheet(n, f, correct, drift, tightness, numbers, out))
+}
+
+// Drafts a plain round's sheet into a lent buffer; returns 0 or the cause.
+#[no_mangle]
+pub extern "C" fn daisarnica_draft_sheet(
+    n: u32,
+    f: u32,
+    first: u32,
+    spacing: u32,
+    out: &mut [u32],
+) -> u32
+    ensures { λ k. ⌜ (k ≡ verdictNumber (draft n f first spacing (now (out .entry)) .verdict))
+        × (now (out .exit) ≡ draft n f first spacing (now (out .entry)) .buffer)
+        × DraftedIfAccepted n k (now (out .exit)) ⌝ }
+{
+    verdict_number(draft_sheet(n, f, first, spacing, out))
 }
 
 // Replays a sheet into a lent buffer and judges it; writes the five numbers of both answers and returns the judge's in one.

@@ -1,15 +1,17 @@
 //! Replay and judge by the proved static library and by the fast form here, on
-//! the same words; and the recorder of both, on the fields of the same sheets.
-//! `benchmark` prints for each sheet the time of one call in nanoseconds, the
-//! median of several runs: what is done, sheet, proved, reference. `benchmark
-//! SHEET FORM CALLS` only makes the calls, for a count of instructions.
+//! the same words; the recorder of both, on the fields of the same sheets; and the
+//! drafts of both. `benchmark` prints for each sheet, or number of heads of a
+//! draft, the time of one call in nanoseconds, the median of several runs: what is
+//! done, sheet, proved, reference. `benchmark SHEET FORM CALLS` only makes the
+//! calls, for a count of instructions.
 
+use reference::draft::draft;
 use reference::fast;
 use reference::program::read_words;
 use reference::recorder::record;
 use reference::results::HeadResult;
 use reference::sheet::check_front;
-use reference::sheets::{proved, proved_recording};
+use reference::sheets::{proved, proved_draft, proved_recording};
 use reference::words::{read_entry, Settings, MAX_WORDS};
 use std::hint::black_box;
 use std::time::Instant;
@@ -17,6 +19,8 @@ use std::time::Instant;
 const ENTRIES: usize = 4096;
 /// Three for each of at most 16 heads.
 const RESULT_WORDS: usize = 48;
+/// The numbers of heads for which a draft is measured.
+const DRAFTED_HEADS: [u32; 4] = [2, 5, 8, 16];
 const RUNS: usize = 301;
 /// The length of one run: so short that other programs seldom interrupt it.
 const RUN_NANOSECONDS: u128 = 1_000_000;
@@ -191,29 +195,59 @@ impl Sheet {
             black_box(&out);
         }
     }
+}
 
-    fn nanoseconds(&self, form: &str, calls: u128) -> u128 {
-        let mut out = vec![0; MAX_WORDS];
-        let start = Instant::now();
-        self.call(form, calls, &mut out);
-        start.elapsed().as_nanos()
-    }
-
-    /// The median time of one call, of both forms by turns.
-    fn measure(&self, forms: [&str; 2]) -> [u128; 2] {
-        let calls = forms.map(|form| 1 + RUN_NANOSECONDS * 10 / self.nanoseconds(form, 10).max(1));
-        let mut times = [[0; 2]; RUNS];
-        for run in &mut times {
-            for (i, form) in forms.iter().enumerate() {
-                run[i] = self.nanoseconds(form, calls[i]) / calls[i];
-            }
+/// So many calls of one form of the draft for n heads.
+fn call_draft(n: u32, form: &str, calls: u128, out: &mut [u32]) {
+    let given = [n, (n - 1) / 2, 1000, 100];
+    for _ in 0..calls {
+        let given = black_box(&given);
+        match form {
+            "draft" => _ = black_box(proved_draft(given, out)),
+            "draft-reference" => _ = black_box(draft(given[0], given[1], given[2], given[3], out)),
+            _ => panic!("no form {form}"),
         }
-        [0, 1].map(|i| {
-            let mut list = times.map(|run| run[i]);
-            list.sort_unstable();
-            list[RUNS / 2]
-        })
+        black_box(&out);
     }
+}
+
+/// That both forms draft the same words.
+fn compare_drafts(n: u32) {
+    let [proved, reference] = ["draft", "draft-reference"].map(|form| {
+        let mut out = vec![0; MAX_WORDS];
+        call_draft(n, form, 1, &mut out);
+        out
+    });
+    assert_eq!(proved[0] >> 28, 1, "{n}");
+    assert_eq!(proved, reference, "{n}");
+}
+
+/// What makes so many calls of a form, with a buffer.
+type Calls<'a> = &'a dyn Fn(&str, u128, &mut [u32]);
+
+fn nanoseconds(call: Calls, form: &str, calls: u128) -> u128 {
+    let mut out = vec![0; MAX_WORDS];
+    let start = Instant::now();
+    call(form, calls, &mut out);
+    start.elapsed().as_nanos()
+}
+
+/// The median time of one call, of both forms by turns: what is done, and what on.
+fn measure(what: &str, name: &str, call: Calls) {
+    let forms = [what, &format!("{what}-reference")];
+    let calls = forms.map(|form| 1 + RUN_NANOSECONDS * 10 / nanoseconds(call, form, 10).max(1));
+    let mut times = [[0; 2]; RUNS];
+    for run in &mut times {
+        for (i, form) in forms.iter().enumerate() {
+            run[i] = nanoseconds(call, form, calls[i]) / calls[i];
+        }
+    }
+    let [proved, reference] = [0, 1].map(|i| {
+        let mut list = times.map(|run| run[i]);
+        list.sort_unstable();
+        list[RUNS / 2]
+    });
+    println!("{what} {name} {proved} {reference}");
 }
 
 fn main() {
@@ -225,16 +259,29 @@ fn main() {
                 compare(sheet.name, &sheet.words);
                 sheet.compare_recorders();
                 for what in ["replay", "record"] {
-                    let [proved, reference] = sheet.measure([what, &format!("{what}-reference")]);
-                    println!("{what} {} {proved} {reference}", sheet.name);
+                    measure(what, sheet.name, &|form, calls, out| {
+                        sheet.call(form, calls, out)
+                    });
                 }
+            }
+            for n in DRAFTED_HEADS {
+                compare_drafts(n);
+                measure("draft", &n.to_string(), &|form, calls, out| {
+                    call_draft(n, form, calls, out)
+                });
             }
         }
         [name, form, calls] => {
-            let sheet = sheets.iter().find(|s| s.name == name);
             let calls = calls.parse().expect("a number of calls");
             let mut out = vec![0; MAX_WORDS];
-            sheet.expect("a sheet's name").call(form, calls, &mut out);
+            match name.parse() {
+                Ok(n) => call_draft(n, form, calls, &mut out),
+                Err(_) => sheets
+                    .iter()
+                    .find(|s| s.name == name)
+                    .expect("a sheet's name, or a number of heads")
+                    .call(form, calls, &mut out),
+            }
         }
         _ => panic!("usage: benchmark [SHEET FORM CALLS]"),
     }

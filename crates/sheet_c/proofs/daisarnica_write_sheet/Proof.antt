@@ -1,8 +1,6 @@
 use mathlib.Core.Path.{_∙_, ap}
-use denote.Ref.{now}
 use Rattle.protocol.specs.Causes.{verdictNumber}
-use Rattle.protocol.specs.Recorder.{settingFrom}
-use Rattle.sheet_c.proofs.Zeros.{recorded-if-accepted}
+use Rattle.sheet_c.proofs.Zeros.{if-accepted}
 use borrow.Author.Needs.{needs}
 use Rattle.sheet_c.proofs.daisarnica_write_sheet.Statement.{statement}
 use Rattle.sheet_c.proofs.daisarnica_write_sheet.Tie as tie
@@ -17,13 +15,11 @@ same-length : tie.Need-same-length
 same-length c = search needs
 
 returns : tie.Need-returns
-returns c =
-    let A = c .before .before .before .before .before .before .before .args in
-    let W = c .before .before .before .write-sheet .ensures in (
-      c .verdict-number .ensures ∙ ap verdictNumber (W .0),
-      W .1,
-      recorded-if-accepted (settingFrom (A .n) (A .f) (A .correct) (A .drift) (A .tightness)) (now (A .numbers)) _ _ _ (c .verdict-number .ensures) (W .2),
-    )
+returns c = let W = c .before .before .before .write-sheet .ensures in (
+  c .verdict-number .ensures ∙ ap verdictNumber (W .0),
+  W .1,
+  if-accepted _ _ (c .verdict-number .ensures) (W .2),
+)
 
 pub daisarnica-write-sheet-spec : {M : Type 1} → statement M
 daisarnica-write-sheet-spec =

@@ -2,8 +2,8 @@
 use Rattle.protocol.proofs.Spelling.{setting-widths}
 use native.Mathlib.Omega.{arith}
 use borrow.Author.Needs.{needs}
-use Rattle.sheet_writer.proofs.write_setting.Statement.{statement}
-use Rattle.sheet_writer.proofs.write_setting.Tie as tie
+use Rattle.sheet_spelling.proofs.write_setting.Statement.{statement}
+use Rattle.sheet_spelling.proofs.write_setting.Tie as tie
 
 mul-out : tie.Need-mul-out
 mul-out c = let w = setting-widths _ (c .pre .0) in omega arith

@@ -2,8 +2,8 @@
 use Rattle.protocol.proofs.Spelling.{entry-widths}
 use native.Mathlib.Omega.{arith}
 use borrow.Author.Needs.{needs}
-use Rattle.sheet_writer.proofs.entry_words.Statement.{statement}
-use Rattle.sheet_writer.proofs.entry_words.Tie as tie
+use Rattle.sheet_spelling.proofs.entry_words.Statement.{statement}
+use Rattle.sheet_spelling.proofs.entry_words.Tie as tie
 
 add-t2 : tie.Need-add-t2
 add-t2 c = let w = entry-widths _ (c .before .pre) in omega arith

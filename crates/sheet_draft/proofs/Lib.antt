@@ -1,0 +1,4 @@
+pub mod Page
+pub mod Round
+pub mod Sheet
+pub mod Sizes
