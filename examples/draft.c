@@ -1,12 +1,10 @@
-/* draft N: writes a practice sheet of N heads, of which as many may be faulty as is allowed, as big-endian words, as the
- * programs replay and trace read it. */
+/* draft N [F FIRST SPACING]: writes a practice sheet of N heads as big-endian words, as the programs replay and trace read
+ * it. At most F heads are faulty, as many as is allowed where it is not said; the first real time is FIRST, and from each
+ * to the next it is SPACING, 1000 and 100 where they are not said. */
 #include <stdio.h>
 #include <stdlib.h>
 
 #include "daisarnica_sheet.h"
-
-#define FIRST 1000
-#define SPACING 100
 
 static uint32_t sheet[DAISARNICA_DRAFT_WORDS(16)];
 
@@ -18,14 +16,14 @@ static void write_word(uint32_t w)
     putchar((int)(w & 255));
 }
 
-/* The number of heads; what 32 bits cannot hold becomes the largest number that they can, and is refused like it. */
-static uint32_t heads(const char *text)
+/* What 32 bits cannot hold becomes the largest number that they can, and is refused like it. */
+static uint32_t number(const char *text)
 {
     char *end;
     unsigned long long n = strtoull(text, &end, 10);
 
     if (end == text || *end) {
-        fprintf(stderr, "not a number\n");
+        fprintf(stderr, "not a number: %s\n", text);
         exit(2);
     }
     return n > UINT32_MAX ? UINT32_MAX : (uint32_t)n;
@@ -33,16 +31,18 @@ static uint32_t heads(const char *text)
 
 int main(int argc, char **argv)
 {
-    uint32_t n, f, cause;
+    uint32_t n, f, first, spacing, cause;
     size_t words, i;
 
-    if (argc != 2) {
-        fprintf(stderr, "usage: draft N\n");
+    if (argc != 2 && argc != 5) {
+        fprintf(stderr, "usage: draft N [F FIRST SPACING]\n");
         return 2;
     }
-    n = heads(argv[1]);
-    f = n > 0 ? (n - 1) / 2 : 0;
-    cause = daisarnica_draft_sheet(n, f, FIRST, SPACING, sheet, sizeof sheet / sizeof sheet[0]);
+    n = number(argv[1]);
+    f = argc == 5 ? number(argv[2]) : n > 0 ? (n - 1) / 2 : 0;
+    first = argc == 5 ? number(argv[3]) : 1000;
+    spacing = argc == 5 ? number(argv[4]) : 100;
+    cause = daisarnica_draft_sheet(n, f, first, spacing, sheet, sizeof sheet / sizeof sheet[0]);
     if (cause) {
         fprintf(stderr, "refused %lu\n", (unsigned long)cause);
         return 1;

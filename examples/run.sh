@@ -32,15 +32,15 @@ refuses() {
     [ ! -s "$out/refused.sheet" ]
 }
 
-# drafts N: replay finds all premises kept in the practice sheet of N heads, and each led by head 0, whose start comes to
-# all of them N steps of 100 after the first time, 1000
+# drafts N F FIRST SPACING: replay finds all premises kept in this practice sheet, and every head led by head 0, whose start
+# comes to all of them N spacings after the first real time
 drafts() {
-    start=$((1000 + 100 * $1))
+    start=$(($3 + $4 * $1))
     for head in $(seq 0 $(($1 - 1))); do
         echo "$head 2 0 0 $start $start 0"
     done >"$out/draft.expected"
     echo "premises 0" >>"$out/draft.expected"
-    "$out/draft" "$1" | target/bin/replay | diff "$out/draft.expected" -
+    "$out/draft" "$@" | target/bin/replay | diff "$out/draft.expected" -
 }
 
 build board_c two_boards edges
@@ -61,9 +61,16 @@ echo 950 1000 1 1 0 0 | refuses 12 recorder 256 0 3 100 10
 echo 950 1000 1 10 0 0 | refuses 3 recorder 17 0 3 100 10
 echo 950 1000 1 10 0 0 | refuses 6 recorder 2 0 3 100 10
 
-# a practice sheet of five heads is the sample; seventeen heads are too many
-drafts 2
-drafts 16
+# practice sheets of every n and f, with the last real time at its bound too; that of five heads is the sample
+for n in $(seq 2 16); do
+    for f in $(seq 0 $(((n - 1) / 2))); do
+        drafts "$n" "$f" 1000 100
+        drafts "$n" "$f" 0 0
+        drafts "$n" "$f" $((268435455 - 1000 * (9 * n - 1))) 1000
+    done
+    refuses 13 draft "$n" 0 $((268435456 - 1000 * (9 * n - 1))) 1000
+done
 "$out/draft" 5 | cmp samples/drafted.sheet -
 refuses 3 draft 17
+refuses 3 draft 16 8 0 0
 echo ok

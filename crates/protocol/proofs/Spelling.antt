@@ -316,6 +316,19 @@ recorded g xs out = go (writeVerdict g xs (length out)) refl
         (sole-spelling g (entriesIn xs) (spells-them g (entriesIn xs) (setting-widths g (w .setting)) (w .fits) (w .within) (w .ranged) few))
     go (Refused c) e = not-accepted c
 
+-- what a writer answers and leaves: the verdict, the sheet before the words kept or the buffer as it was, and what is claimed of these
+module _ (v : Verdict) (ws out : List ℕ) (Claim : Verdict → List ℕ → Type 0) (claimed : Claim (writeIf v ws out .verdict) (writeIf v ws out .buffer)) where
+  pub told : (x : Verdict) (after : List ℕ) → v ≡ x → after ≡ writeIf x ws out .buffer
+      → (x ≡ writeIf v ws out .verdict) × (after ≡ writeIf v ws out .buffer) × Claim x after
+  told x after e left =
+      let verdict : x ≡ writeIf v ws out .verdict = sym (verdict-is x) ∙ ap (λ (y : Verdict). writeIf y ws out .verdict) (sym e) in
+      let buffer : after ≡ writeIf v ws out .buffer = left ∙ ap (λ (y : Verdict). writeIf y ws out .buffer) (sym e) in
+      (verdict, buffer, subst (λ (y : Verdict). Claim y after) (sym verdict) (subst (Claim (writeIf v ws out .verdict)) (sym buffer) claimed))
+    where
+      verdict-is : (x : Verdict) → writeIf x ws out .verdict ≡ x
+      verdict-is Accepted = refl
+      verdict-is (Refused c) = refl
+
 -- "Every refusal comes before anything is written"
 pub refusal-writes-nothing : (g : Setting) (xs out : List ℕ) (c : Cause) → writeSheet g xs out .verdict ≡ Refused c → writeSheet g xs out .buffer ≡ out
 unfolding writeSheet

@@ -19,8 +19,7 @@ use Rattle.protocol.specs.Run.{Run, stopped, ran, runSheet}
 use Rattle.protocol.specs.Premises.{premises, firstBroken, judgeRun, judge}
 use Rattle.protocol.specs.declared.Report.{Report}
 use Rattle.protocol.specs.Claim.{AgreesInWords}
-use Rattle.protocol.specs.Recorder.{Recorded}
-use Rattle.sheet_c.specs.Numbers.{AgreesInNumbers, RecordedIfAccepted, answerNumbers, judgedNumber}
+use Rattle.sheet_c.specs.Numbers.{AgreesInNumbers, answerNumbers, judgedNumber}
 
 pub cause-range : (c : Cause) → (0 < causeNumber c) × (causeNumber c < 14)
 cause-range TooManyWords = (omega arith, omega arith)

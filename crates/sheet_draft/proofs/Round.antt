@@ -3,15 +3,14 @@
 use mathlib.Core.Path.{_≡_, refl, _∙_, ap}
 use mathlib.Core.Bool.{true}
 use mathlib.Core.List.{List, [], _∷_, _++_}
-use Prim.Native.Nat.{ℕ, suc, _+_, _-_, _*_, _^_, _≤_, _<_}
-use native.Mathlib.Nat.{mul-le-mul-left}
+use Prim.Native.Nat.{ℕ, suc, _+_, _*_, _^_, _≤_, _<_}
 use native.Mathlib.Omega.{arith}
 use lib.ListN.{length}
 use borrow.Author.Tests.{lt-ltb}
 use Rattle.protocol.specs.Spelling.{entryWords}
 use Rattle.protocol.specs.Draft.{Slot, slots, phaseOrder, roundOrder, draftEntries, lastSlotTime, draftRoom}
 use Rattle.protocol.proofs.Tests.{and-both}
-use Rattle.protocol.proofs.DraftRoom.{order-length, entries-count}
+use Rattle.protocol.proofs.DraftRoom.{order-length, in-time, entries-count}
 use Rattle.sheet_spelling.specs.Placed.{placed}
 use Rattle.sheet_draft.specs.Page.{Page, withSlots, areTimes, SlotsFit}
 use Rattle.sheet_draft.proofs.Page.{Left, fit-first, go-on, all-placed}
@@ -77,13 +76,9 @@ times-fit spacing t (x ∷ xs) h =
     and-both (lt-ltb t (2 ^ 28) (let z = h 0 (omega arith) in omega arith))
     (times-fit spacing (t + spacing) xs (λ i l. let z = h (suc i) (omega arith) in let later : spacing * suc i ≡ spacing + spacing * i = omega arith in omega arith))
 
-module _ (n first spacing : ℕ) (two : 2 ≤ n) (in-time : lastSlotTime n first spacing < 2 ^ 28) where
-  -- no slot's time is later than the last one's
-  time-fits : (i : ℕ) → i < 9 * n → first + spacing * i < 2 ^ 28
-  time-fits i h = let last : i ≤ 9 * n - 1 = omega arith in let le = mul-le-mul-left spacing last in omega arith
-
+module _ (n first spacing : ℕ) (two : 2 ≤ n) (last : lastSlotTime n first spacing < 2 ^ 28) where
   pub spacing-fits : spacing < 2 ^ 28
-  spacing-fits = let z = time-fits 1 (omega arith) in omega arith
+  spacing-fits = let z = in-time n first spacing last 1 (omega arith) in omega arith
 
   module _ (out : List ℕ) (room : draftRoom n ≤ length out) where
     abbrev page : Page
@@ -97,7 +92,7 @@ module _ (n first spacing : ℕ) (two : 2 ≤ n) (in-time : lastSlotTime n first
     round-fits =
         let count = entries-count n first spacing two in
         let nine = order-length n (omega arith) in
-        (omega arith, times-fit spacing first (roundOrder n) (λ i h. time-fits i (omega arith)))
+        (omega arith, times-fit spacing first (roundOrder n) (λ i h. in-time n first spacing last i (omega arith)))
 
     at-1 : rest page (slots 1 0 n ++ from2 n)
     unfolding roundOrder

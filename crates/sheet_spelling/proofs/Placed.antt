@@ -1,5 +1,5 @@
 -- Words placed in a buffer: nothing, one part after the other, an entry's three stores, and a setting in front.
--- Main results: `placed-none`, `placed-length`, `placed-more`, `placed-three`, `words-joined`, `setting-placed`.
+-- Main results: `placed-none`, `placed-length`, `placed-more`, `placed-three`, `words-joined`, `sheet-placed`.
 use mathlib.Core.Path.{_≡_, refl, sym, _∙_, ap}
 use mathlib.Core.List.{List, [], _∷_, _++_, append-assoc}
 use Prim.Native.Nat.{ℕ, suc, _+_, _≤_}
@@ -8,7 +8,7 @@ use lib.ListN.{length, set, take, drop, length-append, length-take, length-drop,
 use lib.Seq.{drop-append-add, drop-drop, take-append-seam}
 use Rattle.protocol.specs.declared.Setting.{Setting}
 use Rattle.protocol.specs.declared.Entry.{Entry}
-use Rattle.protocol.specs.Spelling.{firstWord, secondWord, timeWord, readingWord, actionWord, entryWords}
+use Rattle.protocol.specs.Spelling.{timeWord, readingWord, actionWord, entryWords, sheetOf}
 use Rattle.protocol.proofs.Tables.{three-more}
 use Rattle.sheet_spelling.specs.Placed.{placed, settingInFront}
 
@@ -58,11 +58,11 @@ unfolding entryWords
 words-joined [] fs = refl
 words-joined (e ∷ es) fs = ap (λ (l : List ℕ). timeWord e ∷ readingWord e ∷ actionWord e ∷ l) (words-joined es fs)
 
--- a setting in front and words behind it are the buffer's beginning
-pub setting-placed : (out : List ℕ) (g : Setting) (ws : List ℕ) → 2 ≤ length out
-    → placed (settingInFront out g) 2 ws ≡ (firstWord g ∷ secondWord g ∷ ws) ++ drop (2 + length ws) out
-unfolding placed
-setting-placed [] g ws h = absurd (omega arith)
-setting-placed (u ∷ []) g ws h = absurd (omega arith)
-setting-placed (u ∷ v ∷ out) g ws h =
-    let behind : 2 + length ws ≡ suc (suc (length ws)) = omega arith in rw behind refl
+-- a setting in front and entries behind it are a sheet at the buffer's beginning
+pub sheet-placed : (out : List ℕ) (g : Setting) (es : List Entry) → 2 ≤ length out
+    → placed (settingInFront out g) 2 (entryWords es) ≡ sheetOf g es ++ drop (length (sheetOf g es)) out
+unfolding placed sheetOf
+sheet-placed [] g es h = absurd (omega arith)
+sheet-placed (u ∷ []) g es h = absurd (omega arith)
+sheet-placed (u ∷ v ∷ out) g es h =
+    let behind : 2 + length (entryWords es) ≡ suc (suc (length (entryWords es))) = omega arith in rw behind refl
