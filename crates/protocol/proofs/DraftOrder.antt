@@ -1,22 +1,22 @@
 -- The order of a drafted round: which entry has its place in which of the 9n slots.
--- Main results: `At`, `in-slot` (an entry with its place in a slot is one of that slot), `fits` (and no slot has others), `facts`.
-use mathlib.Core.Path.{_≡_, refl, sym, _∙_, ap, subst}
+-- Main results: `At`, `in-slot` (an entry with its place in a slot is one of that slot), `fits` (and no slot has others), `last-entry`, `facts`.
+use mathlib.Core.Path.{_≡_, refl, sym, _∙_, ap, ap₂, subst}
 use mathlib.Core.Bool.{true, false, cond}
 use mathlib.Core.List.{List, [], _∷_, _++_}
 use mathlib.Core.Logic.{_≢_}
-use Prim.Native.Nat.{ℕ, _+_, _-_, _*_, _≤_, _<_, min}
+use Prim.Native.Nat.{ℕ, suc, _+_, _-_, _*_, _≤_, _<_, min}
 use native.Mathlib.Omega.{arith}
 use lib.Dec.{ltb}
-use lib.ListN.{length, getD, List·getD-append, length-append}
-use lib.Seq.{getD-append-add}
+use lib.ListN.{length, getD, take, List·getD-append, length-append, take-append-drop, drop-of-length-le}
+use lib.Seq.{getD-append-add, drop-cons, length-take-le}
 use borrow.Author.Tests.{ltb-true, ltb-false, eqb-false, ne-eqb}
 use Rattle.protocol.specs.Words.{hasSerial, hasSender, zeroWhereUnused}
 use Rattle.protocol.specs.Record.{Kind, votes, adjusts}
 use Rattle.protocol.specs.Premises.{turning, delivery, closing}
-use Rattle.protocol.specs.Draft.{Slot, slots, phaseOrder, roundOrder, isReceiver}
+use Rattle.protocol.specs.Draft.{Slot, slots, phaseOrder, roundOrder, draftEntry, isReceiver, entriesFrom, draftEntries, lastSlotTime}
 use Rattle.protocol.proofs.Tests.{absurd-bool, cases, not-true}
 use Rattle.protocol.proofs.Tables.{table-from}
-use Rattle.protocol.proofs.DraftRoom.{slot, slots-length, phase-length, order-length}
+use Rattle.protocol.proofs.DraftRoom.{slot, entries-join, slots-length, phase-length, order-length}
 
 -- a phase's first slot, and the first of its closes
 abbrev pub opens : ℕ → Kind → ℕ
@@ -227,6 +227,21 @@ module _ (n : ℕ) where
   in-slot (turns k {q} z l) = rw (turn-plain k) (phase-blocks (omega arith) k .turning-all q z l)
   in-slot (heard k {q} {p} d l z lp) = rw (frame-serial k .0) (phase-blocks (omega arith) k .frames p z lp)
   in-slot (closes k {q} l) = rw (close-plain k) (in-slots (closing k) 0 n (blocks (omega arith) .closing-all k) q (shuts n k + q) (omega arith) l (omega arith))
+
+-- "the last real time": the last entry is head n − 1's action 9, at the time that cause 13 tests
+pub last-entry : (n first spacing : ℕ) → 0 < n
+    → draftEntries n first spacing ≡ entriesFrom n spacing first (take (9 * n - 1) (roundOrder n)) ++ (draftEntry (lastSlotTime n first spacing) 9 (n - 1) 0 ∷ [])
+unfolding draftEntries entriesFrom
+last-entry n first spacing pos =
+    let last = 9 * n - 1 in
+    let size = order-length n pos in
+    let here : slotAt n last ≡ slot 9 (n - 1) = ap (slotAt n) (let z : last ≡ 8 * n + (n - 1) = omega arith in z) ∙ in-slot n (closes adjusts (omega arith)) in
+    let split : roundOrder n ≡ take last (roundOrder n) ++ (slot 9 (n - 1) ∷ []) =
+    sym (take-append-drop last (roundOrder n))
+    ∙ ap (λ (l : List Slot). take last (roundOrder n) ++ l) (drop-cons (roundOrder n) last nowhere (omega arith) ∙ ap₂ _∷_ here (drop-of-length-le (roundOrder n) {i = suc last} (omega arith))) in
+    let before : length (take last (roundOrder n)) ≡ last = length-take-le last (roundOrder n) (omega arith) in
+    ap (entriesFrom n spacing first) split ∙ entries-join n spacing first (take last (roundOrder n)) (slot 9 (n - 1) ∷ [])
+    ∙ ap (λ (k : ℕ). entriesFrom n spacing first (take last (roundOrder n)) ++ (draftEntry (first + spacing * k) 9 (n - 1) 0 ∷ [])) before
 
 -- NUMBERS
 

@@ -330,22 +330,11 @@ module _ (v : Verdict) (ws out : List ℕ) (Claim : Verdict → List ℕ → Typ
       verdict-is (Refused c) = refl
 
 -- "Every refusal comes before anything is written"
-pub refusal-writes-nothing : (g : Setting) (xs out : List ℕ) (c : Cause) → writeSheet g xs out .verdict ≡ Refused c → writeSheet g xs out .buffer ≡ out
-unfolding writeSheet
-refusal-writes-nothing g xs out c = go (writeVerdict g xs (length out))
-  where
-    go : (v : Verdict) → writeIf v (sheetOf g (entriesIn xs)) out .verdict ≡ Refused c → writeIf v (sheetOf g (entriesIn xs)) out .buffer ≡ out
-    go Accepted e = not-accepted c (sym e)
-    go (Refused d) e = refl
+pub refusal-writes-nothing : (v : Verdict) (ws out : List ℕ) (c : Cause) → writeIf v ws out .verdict ≡ Refused c → writeIf v ws out .buffer ≡ out
+refusal-writes-nothing Accepted ws out c e = not-accepted c (sym e)
+refusal-writes-nothing (Refused d) ws out c e = refl
 
 -- "words past the last one written are kept"
-pub later-words-kept : (g : Setting) (xs out : List ℕ) → drop (placeOf (countIn xs)) (writeSheet g xs out .buffer) ≡ drop (placeOf (countIn xs)) out
-unfolding writeSheet
-later-words-kept g xs out = go (writeVerdict g xs (length out))
-  where
-    ws : List ℕ
-    ws = sheetOf g (entriesIn xs)
-
-    go : (v : Verdict) → drop (placeOf (countIn xs)) (writeIf v ws out .buffer) ≡ drop (placeOf (countIn xs)) out
-    go Accepted = drop-at ws (drop (length ws) out) (placeOf (countIn xs)) (length-written g xs) ∙ ap (λ (k : ℕ). drop k out) (length-written g xs)
-    go (Refused c) = refl
+pub later-words-kept : (v : Verdict) (ws out : List ℕ) → drop (length ws) (writeIf v ws out .buffer) ≡ drop (length ws) out
+later-words-kept Accepted ws out = drop-at ws (drop (length ws) out) (length ws) refl
+later-words-kept (Refused c) ws out = refl

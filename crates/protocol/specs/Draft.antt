@@ -71,7 +71,7 @@ draftSheet n f first spacing = sheetOf (draftSetting n f) (draftEntries n first 
 
 -- THE TESTS
 
--- "the last real time": 9n slots, and a spacing between any two
+-- "the last real time": of 9n slots, a spacing from each to the next
 abbrev pub slotTime : ℕ → ℕ → ℕ → ℕ
 slotTime first spacing i = first + spacing * i
 
