@@ -38,6 +38,9 @@ pub data At (n : ℕ) : ℕ → ℕ → ℕ → ℕ → Type 0 where
   heard : (k : Kind) {q p : ℕ} → q ≢ p → q < n → 0 < p → p < n → At n (delivery k) q p (opens n k + n + p)
   closes : (k : Kind) {q : ℕ} → q < n → At n (closing k) q 0 (shuts n k + q)
 
+pub above-0 : (q : ℕ) → q ≢ 0 → 0 < q
+above-0 q d = omega arith
+
 turn-plain : (k : Kind) → hasSender (turning k) ≡ false
 turn-plain votes = refl
 turn-plain adjusts = refl
@@ -101,14 +104,11 @@ module _ (n : ℕ) where
       (fit-slots (turning k) 0 1 (λ q i l h e. let z : 0 ≡ q = omega arith in subst (λ (q : ℕ). Fit n i (slot (turning k) q)) z (acts (turn-plain k) (at-slot o (leads k pos) (omega arith)))))
       (fit-both 1 (slots (delivery k) 0 1) _ (slots-length (delivery k) 0 1) refl
       (fit-slots (delivery k) 0 1 (λ p i l h e. let z : 0 ≡ p = omega arith in subst (λ (p : ℕ). Fit n i (slot (delivery k) p)) z
-      (delivers (frame-serial k .0) (λ q lq r. at-slot (o + 1) (first-heard k (not-zero q (not-own k 0 q r)) lq) (omega arith)))))
+      (delivers (frame-serial k .0) (λ q lq r. at-slot (o + 1) (first-heard k (above-0 q (not-own k 0 q r)) lq) (omega arith)))))
       (fit-both (n - 1) (slots (turning k) 1 n) _ (slots-length (turning k) 1 n) refl
       (fit-slots (turning k) 1 n (λ q i l h e. acts (turn-plain k) (at-slot (o + 1 + q) (turns k (omega arith) h) (omega arith))))
       (fit-slots (delivery k) 1 n (λ p i l h e. delivers (frame-serial k .0) (λ q lq r. at-slot (o + n + p) (heard k (not-own k p q r) lq (omega arith) h) (omega arith))))))
     where
-      not-zero : (q : ℕ) → q ≢ 0 → 0 < q
-      not-zero q d = omega arith
-
       not-own : (k : Kind) (p q : ℕ) → isReceiver (delivery k) p q ≡ true → q ≢ p
       not-own votes p q r = eqb-false q p (not-true r)
       not-own adjusts p q r = eqb-false q p (not-true r)

@@ -19,7 +19,7 @@ use Rattle.protocol.specs.Premises.{premise1, premise2, startWithin, pre
 use Rattle.protocol.specs.Draft.{draftEntry, draftEntries, draftSetting, slotTime}
 use Rattle.protocol.proofs.Tests.{absurd-bool, cases, and-left, and-right, and-both, or-second, not-true, implies, not-is-true, below-all, count-all, In, first, next}
 use Rattle.protocol.proofs.Phases.{sent}
-use Rattle.protocol.proofs.DraftOrder.{opens, At, starts, start-heard, confirms, leads, first-heard, turns, heard, closes, earliest, earliest-close, facts}
+use Rattle.protocol.proofs.DraftOrder.{above-0, opens, At, starts, start-heard, confirms, leads, first-heard, turns, heard, closes, earliest, earliest-close, facts}
 use Rattle.protocol.proofs.DraftPast.{eventOf, historyAfter, Until, Before, limitAt, limit-low, by-entry, until-end, took-it, absent, not-yet}
 
 -- TESTS AT EVERY EVENT
@@ -100,10 +100,7 @@ module _ (n f begin spacing : ℕ) (two : 2 ≤ n) where
   took-turn : (k : Kind) {i limit : ℕ} {s : History} → Until n begin spacing i limit s → (q : ℕ) → q < n → opens n k + 1 + n ≤ i → took (turning k) q s ≡ true
   took-turn k {s = s} u q l h =
       cases (eqb q 0) (λ w. subst (λ (x : ℕ). took (turning k) x s ≡ true) (sym (eqb-true q 0 w)) (took-it u (leads k (omega arith)) (omega arith)))
-      (λ w. took-it u (turns k (not-zero q (eqb-false q 0 w)) l) (omega arith))
-    where
-      not-zero : (x : ℕ) → (x ≡ 0 → ⊥) → 0 < x
-      not-zero x y = omega arith
+      (λ w. took-it u (turns k (above-0 q (eqb-false q 0 w)) l) (omega arith))
 
   -- the slot of an action that is no delivery
   slot-is : (b : ℕ) {a q p i : ℕ} → hasSender b ≡ false → At n a q p i → a ≡ b → i ≡ earliest n b q
@@ -159,11 +156,8 @@ module _ (n f begin spacing : ℕ) (two : 2 ≤ n) where
       got-frame q l d =
           cases (eqb p 0)
           (λ w. let z = eqb-true p 0 w in subst (λ (p : ℕ). received (delivery k) p 0 q s ≡ true) (sym z) (u .done (first-heard k (not-same q z d) l) (omega arith)))
-          (λ w. u .done (heard k d l (not-zero p (eqb-false p 0 w)) lp) (omega arith))
+          (λ w. u .done (heard k d l (above-0 p (eqb-false p 0 w)) lp) (omega arith))
         where
-          not-zero : (x : ℕ) → (x ≡ 0 → ⊥) → 0 < x
-          not-zero x y = omega arith
-
           not-same : (q : ℕ) → p ≡ 0 → (q ≡ p → ⊥) → 0 < q
           not-same q z d = omega arith
 
