@@ -77,8 +77,12 @@ times-fit spacing t (x ∷ xs) h =
     (times-fit spacing (t + spacing) xs (λ i l. let z = h (suc i) (omega arith) in let later : spacing * suc i ≡ spacing + spacing * i = omega arith in omega arith))
 
 module _ (n first spacing : ℕ) (two : 2 ≤ n) (last : lastSlotTime n first spacing < 2 ^ 28) where
-  pub spacing-fits : spacing < 2 ^ 28
+  spacing-fits : spacing < 2 ^ 28
   spacing-fits = let z = in-time n first spacing last 1 (omega arith) in omega arith
+
+  -- what each block asks for: few heads, a spacing of 28 bits, its own two bounds, and that its slots fit
+  pub block-asks : {X Y F : Type 0} → n ≤ 16 → X → Y → F → (n ≤ 16) × (spacing < 2 ^ 28) × X × Y × F
+  block-asks small x y fit = (small, spacing-fits, x, y, fit)
 
   module _ (out : List ℕ) (room : draftRoom n ≤ length out) where
     abbrev page : Page
