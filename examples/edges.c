@@ -59,7 +59,7 @@ static void scramble(unsigned rounds)
         uint32_t cause, i;
 
         daisarnica_fresh(&lent.head, 2 + pick(15), pick(8), pick(2));
-        for (i = pick(4); i; i--) lent.head.opaque[pick(80)] = number();
+        for (i = pick(4); i; i--) lent.head.opaque[pick(DAISARNICA_HEAD_SIZE / 4)] = number();
         for (i = 0; i < 30; i++) {
             cause = act(pick(11), i + pick(2) * number(), pick(3), pick(2), pick(9) == 0);
             if (cause != 0 && cause != 6 && (cause < 8 || cause > 10)) printf("cause %u of an action\n", (unsigned)cause);

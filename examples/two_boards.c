@@ -1,5 +1,6 @@
 /* Two boards in one process take the bench sheet's 21 entries. Frames go from board to board through an array, and
- * each board has a counter of its own, which its base turns into readings. */
+ * each board has a counter of its own, which its base turns into readings. Both phases close early at both boards; the
+ * timers' actions that come after it are taken and change nothing. */
 #include <stdio.h>
 #include <stdlib.h>
 
@@ -24,6 +25,7 @@ static const entry entries[] = {
 static const uint32_t base[BOARDS] = {4294966000u, 4294964000u};
 
 static daisarnica_head board[BOARDS];
+static uint32_t outcome[BOARDS];
 static daisarnica_frame votes[BOARDS][SERIALS], adjusts[BOARDS][SERIALS];
 
 static void must(uint32_t cause, const char *what)
@@ -52,6 +54,16 @@ static void keep(uint32_t from, const daisarnica_frame *f)
     if (f->action == DAISARNICA_ADJUST_DELIVERED) adjusts[from][f->serial] = *f;
 }
 
+/* Tells the action at which a board's round ended. */
+static void tell_end(uint32_t q, uint32_t reading)
+{
+    daisarnica_ending x;
+
+    must(daisarnica_result(&board[q], &x), "result");
+    if (x.outcome != outcome[q]) printf("board %u has outcome %u at reading %u\n", (unsigned)q, (unsigned)x.outcome, (unsigned)reading);
+    outcome[q] = x.outcome;
+}
+
 static void take(const entry *e)
 {
     const daisarnica_frame *f = delivered(e);
@@ -68,6 +80,7 @@ static void take(const entry *e)
     input.none = f->none;
     must(daisarnica_action(&board[e->board], &input, &sent), "action");
     keep(e->board, &sent);
+    tell_end(e->board, input.reading);
     if (e->action == DAISARNICA_LOOK)
         printf("board %u shows %ld\n", (unsigned)e->board, (long)((int64_t)input.reading + daisarnica_correction(&board[e->board])));
 }

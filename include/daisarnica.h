@@ -19,14 +19,24 @@ extern "C" {
 
 /* A head's record. Its content is the library's: make it by daisarnica_fresh, change it by daisarnica_action. It may be
  * copied, and kept over a restart: a record that was damaged is refused (cause 10) if any number is out of its range. */
-#define DAISARNICA_HEAD_SIZE 320
+#define DAISARNICA_HEAD_SIZE 448
 #define DAISARNICA_HEAD_ALIGN 4
 
 typedef struct {
     uint32_t opaque[DAISARNICA_HEAD_SIZE / 4];
 } daisarnica_head;
 
-/* The actions of a head. */
+/* The actions of a head.
+ *
+ * A phase may close early. The vote phase closes by itself in the very call after which the latest votes of all n heads,
+ * this head's own among them, name its candidate; the adjust phase likewise with the adjuster, once the vote phase is
+ * closed. So on a bench where every head speaks no timer is waited out. What brings it is mostly the delivery of the last
+ * vote or adjust that was missing (5, 8); one call may close both phases, and daisarnica_result then has the outcome at once.
+ * A head that stays silent keeps all others' phases open until their timers' actions close them (6, 9).
+ *
+ * The timers' actions may still be called: after an early close of the vote phase any VOTE_CLOSE, after one of the adjust
+ * phase any ADJUST_TURN or ADJUST_CLOSE, returns 0, changes nothing but the last reading and sends no frame. So firmware
+ * need not know whether a phase closed early: it starts its timers and calls their actions as before. */
 enum {
     DAISARNICA_LOOK = 0,             /* only a reading */
     DAISARNICA_START_SENT = 1,       /* the start is the frame to send */
@@ -34,10 +44,10 @@ enum {
     DAISARNICA_START_CONFIRMED = 3,  /* one's own start */
     DAISARNICA_VOTE_TURN = 4,
     DAISARNICA_VOTE_DELIVERED = 5,   /* of another head */
-    DAISARNICA_VOTE_CLOSE = 6,
+    DAISARNICA_VOTE_CLOSE = 6,       /* the vote phase's timer has run out */
     DAISARNICA_ADJUST_TURN = 7,
     DAISARNICA_ADJUST_DELIVERED = 8, /* of another head */
-    DAISARNICA_ADJUST_CLOSE = 9
+    DAISARNICA_ADJUST_CLOSE = 9      /* the adjust phase's timer has run out */
 };
 
 /* The causes that a call returns; 0 is for what was done. */
@@ -74,7 +84,7 @@ typedef struct {
 
 /* How the round ended for a head. All but the outcome are 0 unless the outcome is 2. */
 typedef struct {
-    uint32_t outcome;    /* 0: no adjust close yet; 1: no clock was adopted; 2: one was */
+    uint32_t outcome;    /* 0: no adjust close yet, by its action or early; 1: no clock was adopted; 2: one was */
     uint32_t candidate;
     uint32_t adjuster;
     uint32_t adjustment;

@@ -8,9 +8,12 @@ use crate::step::{step, Frame, Input};
 use crate::words::{counts_allowed, Cause, Reading, MAX_HEADS, TIME_LIMIT};
 
 /// The memory of a head: last reading, marks, candidate, votes, adjuster, adjusts,
-/// adjustment, n, f, own number, six zeros; then by sender, field after field,
-/// start reading, vote reading, vote serial and adjust serial.
-pub type Head = [u32; 80];
+/// adjustment, n, f, own number, vote closed early, adjust phase closed early, four
+/// zeros; then by sender, field after field, start reading, vote reading, vote
+/// serial, adjust serial, latest vote and latest adjust.
+pub type Head = [u32; NUMBERS];
+/// How many numbers a head's memory has.
+pub const NUMBERS: usize = 112;
 /// Action, reading, sender, serial, choice, carried, and the mark "none".
 pub type InputNumbers = [u32; 7];
 
@@ -66,7 +69,8 @@ fn number(word: u32) -> Option<u32> {
 const MARKS: [u32; 7] = [1, 2, 4, 8, 16, 32, 64];
 
 /// The record that a head's memory holds. None if a mark beyond the seven is set,
-/// the last of them disagrees with the candidate, or a spare number is not 0.
+/// the last of them disagrees with the candidate, a mark of an early close is neither
+/// 0 nor 1, or a spare number is not 0.
 pub fn record_in(head: &Head) -> Option<Record> {
     let mut kept = [Kept::default(); MAX_HEADS];
     for (p, kept) in kept.iter_mut().enumerate() {
@@ -74,11 +78,16 @@ pub fn record_in(head: &Head) -> Option<Record> {
         kept.vote_reading = number(head[32 + p]).map(Reading);
         kept.vote_serial = number(head[48 + p]);
         kept.adjust_serial = number(head[64 + p]);
+        kept.latest_vote = number(head[80 + p]);
+        kept.latest_adjust = number(head[96 + p]);
     }
     let marks = head[1];
     let [start_sent, confirmed, vote_turn, vote_close, adjust_turn, adjust_close, candidate] =
         MARKS.map(|weight| marks & weight != 0);
-    if head[10..16] != [0; 6] || marks >= 128 || candidate != (head[2] != 0) {
+    if marks >= 128 || candidate != (head[2] != 0) {
+        return None;
+    }
+    if head[10] > 1 || head[11] > 1 || head[12..16] != [0; 4] {
         return None;
     }
     Some(Record {
@@ -98,7 +107,20 @@ pub fn record_in(head: &Head) -> Option<Record> {
         vote_close,
         adjust_turn,
         adjust_close,
+        vote_early: head[10] == 1,
+        adjust_early: head[11] == 1,
     })
+}
+
+/// The memory with every head's latest vote naming the candidate (`delivery` 5), or
+/// every latest adjust the adjuster (`delivery` 8), whoever it is. If that phase is
+/// open, the next action that is not without effect closes it early.
+pub fn all_spoken(head: &Head, delivery: u32) -> Head {
+    let (choice, first) = if delivery == 5 { (2, 80) } else { (4, 96) };
+    let mut spoken = *head;
+    let n = (head[7] as usize).min(MAX_HEADS);
+    spoken[first..first + n].fill(head[choice]);
+    spoken
 }
 
 /// Numbers at, below and above the ends of what may stand at an index of the
@@ -114,9 +136,11 @@ pub fn edges(index: usize, record: &Record) -> [u32; 9] {
         7 => MAX_HEADS as u32,
         8 => n.saturating_sub(1) / 2,
         9 => n.saturating_sub(1),
-        10..=15 => 0,
+        10 | 11 => 1,
+        12..=15 => 0,
         16..=47 => TIME_LIMIT,
-        _ => 16,
+        48..=79 => 16,
+        _ => n,
     };
     let below = top.saturating_sub(1);
     let above = top.saturating_add(1);
@@ -157,7 +181,7 @@ pub struct Both {
 impl Both {
     /// A fresh head at both, or the cause for which both refuse it.
     pub fn fresh(n: u32, f: u32, own: u32) -> Result<Result<Both, u32>, String> {
-        let untouched = [u32::MAX; 80];
+        let untouched = [u32::MAX; NUMBERS];
         let mut head = untouched;
         // The pointer is to memory of this function that holds the whole record.
         let cause = unsafe { daisarnica_fresh(&mut head, n, f, own) };

@@ -6,12 +6,12 @@ use std::collections::{BTreeMap, BTreeSet};
 use crate::claim;
 use crate::fast;
 use crate::generate::{generate, Aim, Generated};
-use crate::judge::{first_broken, keeps, keeps_part, parts};
+use crate::judge::{close_indices, first_broken, keeps, keeps_part, parts};
 use crate::program::{printed, read_words};
 use crate::record::Record;
 use crate::results::HeadResult;
 use crate::sheet::{replay, run, run_observed, Run, Taken};
-use crate::step::Frame;
+use crate::step::{is_spent, Frame};
 use crate::words::{bits, counts_allowed, has_sender, has_serial, kind, read_entry};
 use crate::words::{Refusal, MAX_ENTRIES};
 
@@ -44,6 +44,8 @@ pub const BRANCHES: &[&str] = &[
     "5 no effect, same serial",
     "5 no effect, lower serial",
     "5 no effect, serial 0 after a higher one",
+    "5 closes the vote early",
+    "5 closes both phases early",
     "vote carries a reading",
     "vote carries none",
     "vote for itself",
@@ -51,12 +53,17 @@ pub const BRANCHES: &[&str] = &[
     "vote of serial 3 or more",
     "6 with a candidate",
     "6 without a candidate",
+    "6 closes the adjust phase early",
+    "6 spent",
     "7 becomes adjuster",
     "7 with an adjuster",
     "7 no candidate",
     "7 no vote reading",
     "7 median of an even count",
     "7 median of an odd count above 1",
+    "7 after an early vote close",
+    "7 spent",
+    "7 spent, the turn already taken",
     "8 adopts, no adjuster before",
     "8 adopts a higher rank",
     "8 keeps its higher rank",
@@ -66,12 +73,16 @@ pub const BRANCHES: &[&str] = &[
     "8 no effect after the adjust close",
     "8 no effect, same serial",
     "8 no effect, lower serial",
+    "8 closes the adjust phase early after an early vote close",
+    "8 closes the adjust phase early after a vote close by entry",
     "adjust of serial 2 or more",
     "9 outcome 2",
     "9 outcome 1, no candidate",
     "9 outcome 1, no start reading",
     "9 outcome 1, no adjuster",
     "9 without the adjust turn",
+    "9 after an early vote close",
+    "9 spent",
     "end outcome 0",
     "end outcome 1",
     "end outcome 2",
@@ -147,6 +158,35 @@ pub const BRANCHES: &[&str] = &[
     "premise 8 by an adjust that makes a correct head adjust",
     "premise 7 alone: turn",
     "premise 7 alone: an adjust",
+    "premise 4, a correct head closed early",
+    "premise 4, no head closed early",
+    "premise 5, a correct head closed early",
+    "premise 5, no head closed early",
+    "premise 6, a correct head closed early",
+    "premise 6, no head closed early",
+    "premise 7, a correct head closed early",
+    "premise 7, no head closed early",
+    "premise 8, a correct head closed early",
+    "premise 8, no head closed early",
+    "kept, all phases closed early",
+    "kept, all phases closed early, a faulty head too",
+    "kept, no phase closed early",
+    "kept, votes closed both ways",
+    "kept, adjust phases closed both ways",
+    "kept, votes early and adjust phases by entry",
+    "kept, votes by entry and adjust phases early",
+    "kept, a faulty head early, all correct ones by entry",
+    "kept, votes closed early after a vote close by entry",
+    "kept, an adjust phase closed early after one by entry",
+    "kept, an early close without 6",
+    "kept, an early close without 7",
+    "kept, an early close without 9",
+    "kept, all with 6, 7 and 9",
+    "kept, none with 6 or 9",
+    "kept, a spent 6 being no close (premise 5)",
+    "kept, a spent 6 being no close (premise 6)",
+    "kept, a spent 9 being no close (premise 7)",
+    "kept, a spent 9 being no close (premise 8)",
     "kept with drift 4095",
     "kept with drift 0",
     "kept with tightness 65535",
@@ -290,7 +330,13 @@ impl Cover {
         if premise == 8 && sends_late(&run, 8, 9) {
             self.count("premise 8 by an adjust that makes a correct head adjust");
         }
+        if let Some(name) = broken_way(&run, premise) {
+            self.count(name);
+        }
         if premise == 0 {
+            for name in kept_ways(&run) {
+                self.count(name);
+            }
             let settings = run.settings;
             self.counts.insert((settings.n, settings.f));
             for (holds, name) in [
@@ -365,13 +411,144 @@ fn lone_part(run: &Run, premise: u32) -> Option<&'static str> {
 /// Whether a correct head sends a frame at a delivery between two correct
 /// closes.
 fn sends_late(run: &Run, delivery: u32, close: u32) -> bool {
-    let is_correct = |i: &usize| run.settings.is_correct(run.entries[*i].head);
-    let indices = |action: u32| {
-        let indices = (0..run.entries.len()).filter(is_correct);
-        indices.filter(move |&i| run.entries[i].action == action)
+    let closes = close_indices(run, close);
+    let (Some(&first), Some(&last)) = (closes.first(), closes.last()) else {
+        return false;
     };
-    let (first, last) = (indices(close).min(), indices(close).max());
-    indices(delivery).any(|i| Some(i) > first && Some(i) < last && run.frames[i].is_some())
+    (first..last).any(|i| {
+        let entry = &run.entries[i];
+        entry.action == delivery && run.settings.is_correct(entry.head) && run.frames[i].is_some()
+    })
+}
+
+/// Whether heads closed early in a sheet that breaks premise 4 to 8 first.
+fn broken_way(run: &Run, premise: u32) -> Option<&'static str> {
+    let is_early = |r: &&Record| r.vote_early || r.adjust_early;
+    let early: Vec<&Record> = run.records.iter().filter(is_early).collect();
+    let is_correct = |r: &&Record| run.settings.is_correct(r.own);
+    match (premise, early.iter().any(is_correct), early.is_empty()) {
+        (4, true, _) => Some("premise 4, a correct head closed early"),
+        (4, _, true) => Some("premise 4, no head closed early"),
+        (5, true, _) => Some("premise 5, a correct head closed early"),
+        (5, _, true) => Some("premise 5, no head closed early"),
+        (6, true, _) => Some("premise 6, a correct head closed early"),
+        (6, _, true) => Some("premise 6, no head closed early"),
+        (7, true, _) => Some("premise 7, a correct head closed early"),
+        (7, _, true) => Some("premise 7, no head closed early"),
+        (8, true, _) => Some("premise 8, a correct head closed early"),
+        (8, _, true) => Some("premise 8, no head closed early"),
+        _ => None,
+    }
+}
+
+/// Whether a correct head closes early after a correct close by entry.
+fn early_after_entry(run: &Run, close: u32) -> bool {
+    let phase = usize::from(close == 9);
+    let Some(&first) = close_indices(run, close).first() else {
+        return false;
+    };
+    let is_early = |i: usize, head: u32| run.entries[i].head == head && run.early[i][phase];
+    let mut heads = run.settings.correct_heads().into_iter();
+    heads.any(|head| {
+        let mut indices = 0..run.entries.len();
+        indices.find(|&i| is_early(i, head)) > Some(first)
+    })
+}
+
+/// How heads closed in a sheet that keeps all premises.
+fn kept_ways(run: &Run) -> Vec<&'static str> {
+    let is_correct = |r: &&Record| run.settings.is_correct(r.own);
+    let (correct, faulty): (Vec<&Record>, Vec<&Record>) = run.records.iter().partition(is_correct);
+    let votes = correct.iter().filter(|r| r.vote_early).count();
+    let adjusts = correct.iter().filter(|r| r.adjust_early).count();
+    let all = correct.len();
+    let takes = |head: u32, action: u32| {
+        let mut entries = run.entries.iter();
+        entries.any(|e| e.head == head && e.action == action)
+    };
+    let without = |action: u32| {
+        correct.iter().any(|r| {
+            let is_early = if action == 6 {
+                r.vote_early
+            } else {
+                r.adjust_early
+            };
+            is_early && !takes(r.own, action)
+        })
+    };
+    let all_take = |action: u32| correct.iter().all(|r| takes(r.own, action));
+    let any_takes = |action: u32| correct.iter().any(|r| takes(r.own, action));
+    // As if a spent 6 or 9 were the close of its head.
+    let counted = Run {
+        early: vec![[false; 2]; run.entries.len()],
+        ..run.clone()
+    };
+    let is_both = |some: usize| 0 < some && some < all;
+    let some_early = |r: &&Record| r.vote_early || r.adjust_early;
+    [
+        (
+            votes == all && adjusts == all,
+            "kept, all phases closed early",
+        ),
+        (
+            votes == all && adjusts == all && faulty.iter().any(|r| r.adjust_early),
+            "kept, all phases closed early, a faulty head too",
+        ),
+        (
+            !run.records.iter().any(|r| some_early(&r)),
+            "kept, no phase closed early",
+        ),
+        (is_both(votes), "kept, votes closed both ways"),
+        (is_both(adjusts), "kept, adjust phases closed both ways"),
+        (
+            votes == all && adjusts == 0,
+            "kept, votes early and adjust phases by entry",
+        ),
+        (
+            votes == 0 && adjusts == all,
+            "kept, votes by entry and adjust phases early",
+        ),
+        (
+            votes + adjusts == 0 && faulty.iter().any(some_early),
+            "kept, a faulty head early, all correct ones by entry",
+        ),
+        (
+            early_after_entry(run, 6),
+            "kept, votes closed early after a vote close by entry",
+        ),
+        (
+            early_after_entry(run, 9),
+            "kept, an adjust phase closed early after one by entry",
+        ),
+        (without(6), "kept, an early close without 6"),
+        (without(7), "kept, an early close without 7"),
+        (without(9), "kept, an early close without 9"),
+        (
+            all_take(6) && all_take(7) && all_take(9),
+            "kept, all with 6, 7 and 9",
+        ),
+        (!any_takes(6) && !any_takes(9), "kept, none with 6 or 9"),
+        (
+            !keeps(&counted, 5),
+            "kept, a spent 6 being no close (premise 5)",
+        ),
+        (
+            !keeps(&counted, 6),
+            "kept, a spent 6 being no close (premise 6)",
+        ),
+        (
+            !keeps_part(&counted, 7, 1),
+            "kept, a spent 9 being no close (premise 7)",
+        ),
+        (
+            !keeps(&counted, 8),
+            "kept, a spent 9 being no close (premise 8)",
+        ),
+    ]
+    .into_iter()
+    .filter(|(holds, _)| *holds)
+    .map(|(_, name)| name)
+    .collect()
 }
 
 /// Whether a sheet is what it was made for.
@@ -393,6 +570,10 @@ fn aimed(aim: Aim, answer: Result<u32, Refusal>) -> Result<(), String> {
 fn branches(taken: &Taken, seen: &mut Vec<&'static str>) {
     let (before, after, entry) = (taken.before, taken.after, taken.entry);
     let kept = before.kept[entry.sender as usize];
+    early_branches(taken, seen);
+    if is_spent(before, entry.action) {
+        return;
+    }
     match taken.frame {
         Some(Frame::Vote {
             serial,
@@ -493,6 +674,43 @@ fn branches(taken: &Taken, seen: &mut Vec<&'static str>) {
                 "9 outcome 1, no adjuster"
             });
         }
+    }
+}
+
+/// What closes early at an entry, what is open after an early vote close, and what
+/// is spent. In a run a head without a candidate has taken no vote, so that its own
+/// vote closes nothing, and likewise its own adjust: only a vote, an adjust, or a
+/// vote close by entry after all adjusts ends in an early close.
+fn early_branches(taken: &Taken, seen: &mut Vec<&'static str>) {
+    let (before, after, action) = (taken.before, taken.after, taken.entry.action);
+    let votes = after.vote_early && !before.vote_early;
+    let adjusts = after.adjust_early && !before.adjust_early;
+    match (action, votes, adjusts) {
+        (_, false, false) => {}
+        (5, true, false) => seen.push("5 closes the vote early"),
+        (5, true, true) => seen.push("5 closes both phases early"),
+        (6, false, true) => seen.push("6 closes the adjust phase early"),
+        (8, false, true) if before.vote_early => {
+            seen.push("8 closes the adjust phase early after an early vote close");
+        }
+        (8, false, true) => {
+            seen.push("8 closes the adjust phase early after a vote close by entry");
+        }
+        _ => unreachable!("an early close at action {action}"),
+    }
+    let is_spent = is_spent(before, action);
+    match action {
+        6 if is_spent => seen.push("6 spent"),
+        7 if is_spent => {
+            seen.push("7 spent");
+            if before.adjust_turn {
+                seen.push("7 spent, the turn already taken");
+            }
+        }
+        9 if is_spent => seen.push("9 spent"),
+        7 if before.vote_early => seen.push("7 after an early vote close"),
+        9 if before.vote_early => seen.push("9 after an early vote close"),
+        _ => {}
     }
 }
 
@@ -637,6 +855,9 @@ pub fn closed_reasons(
     sender: u32,
 ) -> Vec<&'static str> {
     let h = &records[head as usize];
+    if is_spent(h, action) {
+        return Vec::new();
+    }
     let own = head == sender;
     let all = match action {
         1 => vec![

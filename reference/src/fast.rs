@@ -19,6 +19,8 @@ const VOTE_TURN: u8 = 4;
 const VOTE_CLOSE: u8 = 8;
 const ADJUST_TURN: u8 = 16;
 const ADJUST_CLOSE: u8 = 32;
+const VOTE_EARLY: u8 = 64;
+const ADJUST_EARLY: u8 = 128;
 
 /// Votes or adjusts, as a head sees them.
 #[derive(Clone, Copy)]
@@ -30,6 +32,8 @@ struct Phase {
     frames: [(u8, u32); MAX_HEADS],
     /// By sender, the least serial that is above the last taken.
     next: [u8; MAX_HEADS],
+    /// By whom they name, the heads whose latest frame names it, the own one's too.
+    named: [u16; MAX_HEADS],
 }
 
 const EMPTY: Phase = Phase {
@@ -37,13 +41,27 @@ const EMPTY: Phase = Phase {
     sent: 0,
     frames: [(0, 0); MAX_HEADS],
     next: [0; MAX_HEADS],
+    named: [0; MAX_HEADS],
 };
 
 impl Phase {
-    fn send(&mut self, choice: u8, reading: u32) {
+    fn send(&mut self, own: usize, choice: u8, reading: u32) {
         self.choice = choice;
         self.frames[self.sent as usize] = (choice, reading);
         self.sent += 1;
+        self.hear(own, choice);
+    }
+
+    /// The latest frame of a head names this one, and no other any more.
+    fn hear(&mut self, from: usize, choice: u8) {
+        self.named
+            .iter_mut()
+            .for_each(|heads| *heads &= !(1 << from));
+        self.named[choice as usize] |= 1 << from;
+    }
+
+    fn all_name_choice(&self, all: u16) -> bool {
+        self.choice != NOBODY && self.named[self.choice as usize] == all
     }
 }
 
@@ -85,7 +103,7 @@ impl Head {
             NO_READING
         };
         self.vote[own] = reading;
-        self.votes.send(candidate, reading);
+        self.votes.send(own, candidate, reading);
     }
 
     fn own_vote(&mut self, own: usize, f: u32) {
@@ -94,6 +112,19 @@ impl Head {
             && self.starts.count_ones() > f
         {
             self.send_vote(own, own as u8);
+        }
+    }
+
+    /// The phases to which all have spoken are closed early. In a run this finds
+    /// nothing after an entry without effect, so it is asked after every entry.
+    fn close_early(&mut self, all: u16) {
+        if !self.has(VOTE_CLOSE) && self.votes.all_name_choice(all) {
+            self.marks |= VOTE_CLOSE | VOTE_EARLY;
+        }
+        if self.marks & (VOTE_CLOSE | ADJUST_CLOSE) == VOTE_CLOSE
+            && self.adjusts.all_name_choice(all)
+        {
+            self.marks |= ADJUST_CLOSE | ADJUST_EARLY;
         }
     }
 
@@ -151,9 +182,18 @@ struct Judge {
     /// By sender and serial, the heads that a vote or an adjust reached.
     vote_reached: [[u16; MAX_HEADS]; MAX_HEADS],
     adjust_reached: [[u16; MAX_HEADS]; MAX_HEADS],
-    /// A vote or adjust reached a correct head after the first correct close.
+    /// A correct head that was open closed its votes, or its adjust phase, by entry.
+    vote_closed: bool,
+    adjust_closed: bool,
+    /// A vote or adjust reached a correct head after the first such close.
     late_vote: bool,
     late_adjust: bool,
+}
+
+/// The heads with this mark.
+fn marked(heads: &[Head; MAX_HEADS], mark: u8) -> u16 {
+    let bits = heads.iter().map(|h| u16::from(h.has(mark)));
+    bits.rfold(0, |set, bit| set << 1 | bit)
 }
 
 impl Judge {
@@ -169,6 +209,8 @@ impl Judge {
             start_times: [[0; MAX_HEADS]; MAX_HEADS],
             vote_reached: [[0; MAX_HEADS]; MAX_HEADS],
             adjust_reached: [[0; MAX_HEADS]; MAX_HEADS],
+            vote_closed: false,
+            adjust_closed: false,
             late_vote: false,
             late_adjust: false,
         }
@@ -240,10 +282,10 @@ impl Judge {
             }
             5 => {
                 self.vote_reached[sender][serial] |= bit;
-                self.late_vote |= is_correct && self.took[6] & self.correct != 0;
+                self.late_vote |= is_correct && self.vote_closed;
             }
-            6 if is_correct => {
-                if self.took[6] & self.correct == 0 {
+            6 if is_correct && !heads[head].has(VOTE_EARLY) => {
+                if !self.vote_closed {
                     let led = self.took[1] & self.took[3] & self.took[4];
                     let kept = self.is_whole(led | self.took[5])
                         && (0..MAX_HEADS)
@@ -251,18 +293,20 @@ impl Judge {
                             .all(|x| self.is_whole(self.start_reached[x]))
                         && self.frames_reached(&self.vote_reached, heads, |h| h.votes.sent);
                     self.ask(5, kept);
+                    self.vote_closed = true;
                 }
                 self.ask(6, !self.late_vote);
             }
             8 => {
                 self.adjust_reached[sender][serial] |= bit;
-                self.late_adjust |= is_correct && self.took[9] & self.correct != 0;
+                self.late_adjust |= is_correct && self.adjust_closed;
             }
-            9 if is_correct => {
-                if self.took[9] & self.correct == 0 {
-                    let kept = self.is_whole(self.took[7])
+            9 if is_correct && !heads[head].has(ADJUST_EARLY) => {
+                if !self.adjust_closed {
+                    let kept = self.is_whole(self.took[7] | marked(heads, ADJUST_EARLY))
                         && self.frames_reached(&self.adjust_reached, heads, |h| h.adjusts.sent);
                     self.ask(7, kept);
+                    self.adjust_closed = true;
                 }
                 self.ask(8, !self.late_adjust);
             }
@@ -272,10 +316,12 @@ impl Judge {
     }
 
     /// The first broken premise, or 0, after the last entry.
-    fn verdict(mut self) -> u32 {
+    fn verdict(mut self, heads: &[Head; MAX_HEADS]) -> u32 {
         let enough = self.settings.n - self.settings.f;
         self.ask(1, self.correct.count_ones() >= enough);
-        self.ask(4, self.is_whole(self.took[6] & self.took[7] & self.took[9]));
+        let voted = self.took[6] | marked(heads, VOTE_EARLY);
+        let adjusted = self.took[7] & self.took[9] | marked(heads, ADJUST_EARLY);
+        self.ask(4, self.is_whole(voted & adjusted));
         match self.broken {
             0 => 0,
             broken => broken.trailing_zeros(),
@@ -288,6 +334,7 @@ impl Judge {
 pub fn answer(words: &[u32], buffer: Option<usize>) -> Result<(Vec<HeadResult>, u32), Refusal> {
     let settings = check_front(words, buffer)?;
     let n = settings.n;
+    let all = u16::MAX >> (16 - n);
     let mut heads = [FRESH; MAX_HEADS];
     let mut judge = Judge::new(settings);
     let mut now = 0;
@@ -331,7 +378,8 @@ pub fn answer(words: &[u32], buffer: Option<usize>) -> Result<(Vec<HeadResult>, 
             3 => h.marks & (START_SENT | CONFIRMED) != START_SENT,
             4 => h.marks & (CONFIRMED | VOTE_TURN) != CONFIRMED,
             5 => sender == head || serial >= from.votes.sent as usize,
-            6 => h.has(VOTE_CLOSE),
+            6 => h.marks & (VOTE_CLOSE | VOTE_EARLY) == VOTE_CLOSE,
+            7 | 9 if h.has(ADJUST_EARLY) => false,
             7 => h.marks & (VOTE_CLOSE | ADJUST_TURN | ADJUST_CLOSE) != VOTE_CLOSE,
             8 => sender == head || serial >= from.adjusts.sent as usize,
             9 => h.marks & (VOTE_CLOSE | ADJUST_CLOSE) != VOTE_CLOSE,
@@ -361,33 +409,36 @@ pub fn answer(words: &[u32], buffer: Option<usize>) -> Result<(Vec<HeadResult>, 
             5 if !h.has(VOTE_CLOSE) && serial as u8 >= h.votes.next[sender] => {
                 h.votes.next[sender] = serial as u8 + 1;
                 h.vote[sender] = vote.1;
+                h.votes.hear(sender, vote.0);
                 if vote.0 < h.votes.choice {
                     h.send_vote(head, vote.0);
                 }
             }
             6 => h.marks |= VOTE_CLOSE,
-            7 => {
+            7 if !h.has(ADJUST_EARLY) => {
                 h.marks |= ADJUST_TURN;
                 if h.votes.choice != NOBODY && h.adjusts.choice == NOBODY {
                     if let Some(median) = h.vote_median() {
                         h.adjustment = median;
-                        h.adjusts.send(head as u8, median);
+                        h.adjusts.send(head, head as u8, median);
                     }
                 }
             }
             8 if !h.has(ADJUST_CLOSE) && serial as u8 >= h.adjusts.next[sender] => {
                 h.adjusts.next[sender] = serial as u8 + 1;
+                h.adjusts.hear(sender, adjust.0);
                 if adjust.0 < h.adjusts.choice {
                     h.adjustment = adjust.1;
-                    h.adjusts.send(adjust.0, adjust.1);
+                    h.adjusts.send(head, adjust.0, adjust.1);
                 }
             }
             9 => h.marks |= ADJUST_CLOSE,
             _ => {}
         }
+        h.close_early(all);
     }
     let results = (0..n as usize).map(|own| heads[own].result(own)).collect();
-    Ok((results, judge.verdict()))
+    Ok((results, judge.verdict(&heads)))
 }
 
 /// What the program prints for the bytes on its standard input.

@@ -114,7 +114,7 @@ fn fill(random: &mut Random, words: &mut Vec<u32>) {
         }
     }
     let room = MAX_ENTRIES - words.len() / 3;
-    let count = random.pick(&[1, 40, room]).min(room);
+    let count = random.pick(&[1, 40, room, room]).min(room);
     for _ in 0..count {
         let [reading, head] = random.pick(&heads);
         words.extend([now, reading, 0x5000_0000 | head]);
@@ -123,7 +123,7 @@ fn fill(random: &mut Random, words: &mut Vec<u32>) {
 
 /// Any sheet that is accepted.
 fn any_accepted(random: &mut Random) -> Vec<u32> {
-    let premise = random.pick(&[0, 0, 0, 0, 5, 7]);
+    let premise = random.pick(&[0, 0, 0, 0, 4, 5, 7]);
     accepted(random, premise).0
 }
 

@@ -1,5 +1,6 @@
-//! "The eight premises", each as plain loops over the entries. "Before and
-//! after, earlier and later go by the order of entries".
+//! "The eight premises", each as plain loops over the entries, with what document
+//! 02, No. 4, says of phases closed early. "Before and after, earlier and later go
+//! by the order of entries".
 
 use crate::sheet::{run, Run};
 use crate::step::Frame;
@@ -38,9 +39,9 @@ pub fn keeps_part(run: &Run, premise: u32, part: usize) -> bool {
         (3, 0) => confirmed_delivered(run),
         (3, 1) => confirmed_within_tightness(run),
         (3, _) => confirmed_not_later(run),
-        (4, 0) => all_take(run, &run.entries, 6),
-        (4, 1) => all_take(run, &run.entries, 7),
-        (4, _) => all_take(run, &run.entries, 9),
+        (4, 0) => all_take(run, run.entries.len(), 6),
+        (4, 1) => all_take(run, run.entries.len(), 7),
+        (4, _) => all_take(run, run.entries.len(), 9),
         (5, 0) => all_took_turn_or_got_vote(run),
         (5, 1) => starts_reached(run),
         (5, _) => frames_reached(run, 5, 6),
@@ -142,10 +143,24 @@ fn takes(entries: &[Entry], head: u32, action: u32) -> bool {
     entries.iter().any(|e| e.head == head && e.action == action)
 }
 
-/// "4. Every correct head takes actions 6, 7 and 9.", for one action.
-fn all_take(run: &Run, entries: &[Entry], action: u32) -> bool {
-    let correct = run.settings.correct_heads();
-    correct.iter().all(|&head| takes(entries, head, action))
+/// Whether `head` closes its votes (`close` 6) or its adjust phase (`close` 9)
+/// early in one of the entries before `end`.
+fn closes_early(run: &Run, end: usize, head: u32, close: u32) -> bool {
+    let phase = usize::from(close == 9);
+    (0..end).any(|i| run.entries[i].head == head && run.early[i][phase])
+}
+
+/// "4. Every correct head takes actions 6, 7 and 9.", for one action, in the entries
+/// before `end`. "Premise 4 counts an early vote close as 6 taken; an early adjust
+/// close counts as 7 and 9 taken in premises 4 and 7."
+fn all_take(run: &Run, end: usize, action: u32) -> bool {
+    let close = if action == 6 { 6 } else { 9 };
+    for head in run.settings.correct_heads() {
+        if !takes(&run.entries[..end], head, action) && !closes_early(run, end, head, close) {
+            return false;
+        }
+    }
+    true
 }
 
 /// The indices of the correct heads' entries with this action.
@@ -156,10 +171,19 @@ fn correct_indices(run: &Run, action: u32) -> Vec<usize> {
         .collect()
 }
 
-/// The entries before the first correct close: of votes (`close` 6) or adjusts
-/// (`close` 9). None without such a close: then nothing is asked.
+/// The indices of the correct closes, of votes (`close` 6) or adjusts (`close` 9).
+/// "Premises 5 to 8 look at closes by entry only at heads still open": an action of a
+/// head that has closed early before is none.
+pub fn close_indices(run: &Run, close: u32) -> Vec<usize> {
+    let mut indices = correct_indices(run, close);
+    indices.retain(|&i| !closes_early(run, i, run.entries[i].head, close));
+    indices
+}
+
+/// The entries before the first correct close. None without such a close: the
+/// premises "ask nothing where there is no such close".
 fn before_close(run: &Run, close: u32) -> Option<&[Entry]> {
-    let first = *correct_indices(run, close).first()?;
+    let first = *close_indices(run, close).first()?;
     Some(&run.entries[..first])
 }
 
@@ -238,7 +262,7 @@ fn frames_reached(run: &Run, delivery: u32, close: u32) -> bool {
 /// head." (`delivery` 5, `close` 6) "8. As 6, for adjusts and adjust closes."
 /// (`delivery` 8, `close` 9)
 fn no_delivery_between(run: &Run, delivery: u32, close: u32) -> bool {
-    let closes = correct_indices(run, close);
+    let closes = close_indices(run, close);
     let (Some(&first), Some(&last)) = (closes.first(), closes.last()) else {
         return true;
     };
@@ -248,7 +272,8 @@ fn no_delivery_between(run: &Run, delivery: u32, close: u32) -> bool {
         .any(|&index| first < index && index < last)
 }
 
-/// "7. Before the first correct adjust close, every correct head took 7".
+/// "7. Before the first correct adjust close, every correct head took 7", or has by
+/// then closed its adjust phase early.
 fn all_take_7_before(run: &Run) -> bool {
-    before_close(run, 9).is_none_or(|before| all_take(run, before, 7))
+    before_close(run, 9).is_none_or(|before| all_take(run, before.len(), 7))
 }

@@ -3,20 +3,23 @@
 use crate::words::{counts_allowed, Reading, MAX_HEADS, TIME_LIMIT};
 
 /// What is kept "by each sender": "the last start reading, vote reading, and
-/// vote and adjust serials taken". Each may be none.
+/// vote and adjust serials taken"; and, by document 02, No. 4, whom its latest
+/// vote and its latest adjust name. Each may be none.
 #[derive(Clone, Copy, Debug, PartialEq, Eq, Default)]
 pub struct Kept {
     pub start_reading: Option<Reading>,
     pub vote_reading: Option<Reading>,
     pub vote_serial: Option<u32>,
     pub adjust_serial: Option<u32>,
+    pub latest_vote: Option<u32>,
+    pub latest_adjust: Option<u32>,
 }
 
 /// "A head's record keeps n, f, its own number and last reading (0 when
 /// fresh); by each sender, the last start reading, vote reading, and vote and
 /// adjust serials taken; candidate; adjuster; adjustment; votes and adjusts
 /// sent; six marks (start sent, confirmed, vote turn, vote close, adjust turn,
-/// adjust close)."
+/// adjust close)." Document 02, No. 4, adds "a mark for each phase closed early".
 #[derive(Clone, Debug, PartialEq, Eq)]
 pub struct Record {
     pub n: u32,
@@ -35,6 +38,8 @@ pub struct Record {
     pub vote_close: bool,
     pub adjust_turn: bool,
     pub adjust_close: bool,
+    pub vote_early: bool,
+    pub adjust_early: bool,
 }
 
 impl Record {
@@ -59,6 +64,8 @@ impl Record {
             vote_close: false,
             adjust_turn: false,
             adjust_close: false,
+            vote_early: false,
+            adjust_early: false,
         }
     }
 
@@ -122,6 +129,10 @@ impl Record {
             {
                 return false;
             }
+            // "each sender's latest vote and adjust (none, or below n)"
+            if !below_n(kept.latest_vote) || !below_n(kept.latest_adjust) {
+                return false;
+            }
         }
         // There is no sender at n or above, so nothing is kept for one.
         if self.kept[self.n as usize..]
@@ -151,6 +162,11 @@ impl Record {
             || (self.vote_turn && !self.confirmed)
             || ((self.adjust_turn || self.adjust_close) && !self.vote_close)
         {
+            return false;
+        }
+        // "a mark for each phase closed early, set only with that phase's close
+        // mark"
+        if (self.vote_early && !self.vote_close) || (self.adjust_early && !self.adjust_close) {
             return false;
         }
         true

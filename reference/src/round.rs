@@ -3,7 +3,7 @@
 
 use crate::random::Random;
 use crate::record::Record;
-use crate::step::{input, is_closed, step, Frame};
+use crate::step::{input, is_closed, is_spent, step, Frame};
 use crate::words::{Entry, Reading, RealTime, Settings, MAX_ENTRIES, TIME_LIMIT};
 
 const MILLION: i64 = 1_000_000;
@@ -136,9 +136,23 @@ const EAGER: Wish = Wish {
     turn: true,
 };
 
+/// How faulty heads fare.
+#[derive(Clone, Copy, PartialEq, Eq)]
+enum Mood {
+    /// They stop, and miss and lose frames.
+    Wild,
+    /// They do neither, so all heads may hear all.
+    Tame,
+    /// As tame, but some lines from or to them carry no votes, or no adjusts: heads
+    /// close early where they hear all, and others by entry.
+    Cut,
+}
+
 #[derive(Clone, Copy)]
 enum Task {
     Act(u32, u32),
+    /// A head's spent action, by its place in the head's list.
+    Spend(u32, usize),
     Burst(u32),
     Restart(u32),
     Must,
@@ -159,6 +173,17 @@ struct Round<'a> {
     left: Vec<u32>,
     /// In quarters, by sender and head.
     loss: Vec<Vec<u64>>,
+    mood: Mood,
+    /// Delivery action, sender and head of the lines that do not carry such frames.
+    cuts: Vec<[u32; 3]>,
+    /// The head to which votes come late.
+    slow: Option<u32>,
+    /// Whether a head takes its adjust turn as soon as it has closed its votes early.
+    hasty: bool,
+    /// Whether, after the first close by entry, what others hear late closes them early.
+    late_words: bool,
+    /// By head, which of actions 6, 7 and 9 it means to take after an early close.
+    spends: Vec<Vec<u32>>,
     bursts: Vec<Option<Burst>>,
     /// By sender, the heads that its start reached.
     start_reached: Vec<u32>,
@@ -208,9 +233,21 @@ fn settings(random: &mut Random, breaks: u32) -> Settings {
     if random.chance(1, 2) {
         n = n.min(2 + random.below(15));
     }
-    let f = random.below((n - 1) / 2 + 1);
+    let mut f = random.below((n - 1) / 2 + 1);
+    if n > 2 && random.chance(1, 3) {
+        f = f.max(1);
+    }
+    // If none is faulty and premise 5 (7) is kept, all close their votes (adjust
+    // phases) early, so premise 6 (8) is never broken first.
+    let needs_faulty = matches!(breaks, 6 | 8);
+    if needs_faulty {
+        n = n.max(3);
+        f = f.max(1);
+    }
     let faulty = if breaks == 1 {
         random.between(f as i64 + 1, n as i64)
+    } else if needs_faulty || (f > 0 && random.chance(2, 3)) {
+        random.between(1, f as i64)
     } else {
         random.between(0, f as i64)
     };
@@ -235,6 +272,40 @@ fn settings(random: &mut Random, breaks: u32) -> Settings {
 /// A time in the last part of the 28 bits.
 fn late_time(random: &mut Random) -> i64 {
     i64::from(TIME_LIMIT) - 1 - random.between(0, 300_000)
+}
+
+/// The lines that carry no votes, no adjusts or neither: from a faulty head to some
+/// correct ones, and at times from those to it.
+fn faulty_cuts(random: &mut Random, settings: &Settings, breaks: u32) -> Vec<[u32; 3]> {
+    let correct = settings.correct_heads();
+    let faulty: Vec<u32> = (0..settings.n)
+        .filter(|&x| !settings.is_correct(x))
+        .collect();
+    if faulty.is_empty() || correct.is_empty() {
+        return Vec::new();
+    }
+    let actions: &[u32] = match breaks {
+        6 => &[5],
+        8 => &[8],
+        _ => random.pick(&[&[5][..], &[8], &[5, 8]]),
+    };
+    let mut cuts = Vec::new();
+    let x = random.pick(&faulty);
+    let part = random.pick(&[0, 1, 2, 3, 4]);
+    let sure = random.pick(&correct);
+    let back = random.chance(1, 3);
+    for head in correct {
+        if head != sure && !random.chance(part, 4) {
+            continue;
+        }
+        for &action in actions {
+            cuts.push([action, x, head]);
+            if back && random.chance(1, 2) {
+                cuts.push([action, head, x]);
+            }
+        }
+    }
+    cuts
 }
 
 fn clock(random: &mut Random, settings: &Settings, correct: bool, late: bool) -> Clock {
@@ -299,7 +370,16 @@ pub fn round(random: &mut Random, breaks: u32) -> Option<(Settings, Vec<Entry>)>
             turn: random.chance(likely, likely + 1),
         })
         .collect();
-    for x in (0..n).filter(|&x| !settings.is_correct(x)) {
+    let mood = match random.below(8) {
+        0..=3 => Mood::Wild,
+        4 => Mood::Tame,
+        _ => Mood::Cut,
+    };
+    let mut cuts = Vec::new();
+    if mood == Mood::Cut {
+        cuts = faulty_cuts(random, &settings, breaks);
+    }
+    for x in (0..n).filter(|&x| mood == Mood::Wild && !settings.is_correct(x)) {
         if random.chance(1, 2) {
             left[x as usize] = random.below(8 * u64::from(n)) as u32;
         }
@@ -325,16 +405,34 @@ pub fn round(random: &mut Random, breaks: u32) -> Option<(Settings, Vec<Entry>)>
         loss.iter_mut().for_each(|from| from[0] = 0);
         wishes[0] = EAGER;
     }
-    let variant = random.below(3);
+    let mut variant = random.below(3);
+    let is_faultless = all_correct.len() as u32 == n;
+    if breaks == 7 && variant == 0 && is_faultless {
+        // Then all would close early at the adjusts that reach them.
+        variant = 1;
+    }
     let victim = if all_correct.is_empty() {
         0
     } else {
         random.pick(&all_correct)
     };
+    let other = (victim + 1 + random.below(u64::from(n) - 1) as u32) % n;
     let mut omitted = 0;
     match breaks {
         2 => clocks[victim as usize].break_in = Some(random.below(3 * u64::from(n) + 6) as u32),
-        4 => omitted = random.pick(&[6, 7, 9]),
+        // What the victim never hears keeps it from closing early.
+        4 => {
+            omitted = random.pick(&[6, 7, 9]);
+            if is_faultless || random.chance(1, 2) {
+                cuts.push([if omitted == 6 { 5 } else { 8 }, other, victim]);
+            }
+        }
+        5 if variant == 0 && is_faultless && random.chance(1, 2) => {
+            cuts.push([5, other, victim]);
+        }
+        7 if variant == 1 && is_faultless && random.chance(1, 2) => {
+            cuts.push([8, other, victim]);
+        }
         5 if variant == 2 => wishes.iter_mut().for_each(|w| w.turn = false),
         _ => {}
     }
@@ -345,6 +443,18 @@ pub fn round(random: &mut Random, breaks: u32) -> Option<(Settings, Vec<Entry>)>
         2 => random.below(100),
         _ => random.below(100_000),
     };
+    let slow = random
+        .chance(1, 3)
+        .then(|| random.below(u64::from(n)) as u32);
+    let hasty = random.chance(if breaks >= 7 { 1 } else { 2 }, 3);
+    let spends = (0..n)
+        .map(|_| match random.below(4) {
+            0 => Vec::new(),
+            1 => vec![6, 7, 9],
+            2 => vec![6, 6, 7, 7, 9, 9],
+            _ => vec![random.pick(&[6, 7, 9])],
+        })
+        .collect();
     let mut round = Round {
         settings,
         stage: Stage::Voting,
@@ -355,6 +465,12 @@ pub fn round(random: &mut Random, breaks: u32) -> Option<(Settings, Vec<Entry>)>
         wishes,
         left,
         loss,
+        mood,
+        cuts,
+        slow,
+        hasty,
+        late_words: random.chance(1, 3),
+        spends,
         bursts: vec![None; n as usize],
         start_reached: vec![0; n as usize],
         got_vote: 0,
@@ -389,7 +505,9 @@ pub fn round(random: &mut Random, breaks: u32) -> Option<(Settings, Vec<Entry>)>
         round.advance();
         round.take();
     }
-    round.finish();
+    if !round.failed {
+        round.finish();
+    }
     (!round.failed).then_some((settings, round.entries))
 }
 
@@ -417,7 +535,8 @@ impl Round<'_> {
             && (action == self.omitted || (self.omitted == 6 && action != 6))
     }
 
-    /// The correct heads that took the action, or leave it out.
+    /// The correct heads that took the action, closed its phase early, or leave it
+    /// out.
     fn through(&self, action: u32) -> u32 {
         (0..self.settings.n)
             .filter(|&h| self.is_correct(h))
@@ -425,12 +544,82 @@ impl Round<'_> {
                 let r = self.record(h);
                 let mark = match action {
                     6 => r.vote_close,
-                    7 => r.adjust_turn,
+                    7 => r.adjust_turn || r.adjust_early,
                     _ => r.adjust_close,
                 };
                 mark || self.omits(h, action)
             })
             .fold(0, |set, h| set | 1 << h)
+    }
+
+    /// The correct heads that closed their votes (`close` 6) or their adjust phase
+    /// by entry.
+    fn closed_by_entry(&self, close: u32) -> u32 {
+        (0..self.settings.n)
+            .filter(|&h| self.is_correct(h))
+            .filter(|&h| {
+                let r = self.record(h);
+                match close {
+                    6 => r.vote_close && !r.vote_early,
+                    _ => r.adjust_close && !r.adjust_early,
+                }
+            })
+            .fold(0, |set, h| set | 1 << h)
+    }
+
+    /// After a close by entry, the correct heads still open hear all that they have
+    /// missed, if that closes them all early: no other close by entry follows, so
+    /// premise 6 (`close` 6) or 8 (`close` 9) is kept.
+    fn hear_late(&mut self, close: u32) {
+        if !self.late_words || self.closed_by_entry(close) == 0 {
+            return;
+        }
+        let said = |r: &Record| match close {
+            6 => (r.candidate, r.votes_sent),
+            _ => (r.adjuster, r.adjusts_sent),
+        };
+        let mut missed = Vec::new();
+        for head in self.settings.correct_heads() {
+            let record = self.record(head);
+            let is_closed = match close {
+                6 => record.vote_close,
+                _ => record.adjust_close,
+            };
+            if is_closed {
+                continue;
+            }
+            for sender in (0..self.settings.n).filter(|&sender| sender != head) {
+                let (choice, sent) = said(self.record(sender));
+                if choice.is_none() || choice != said(record).0 {
+                    return;
+                }
+                let kept = &record.kept[sender as usize];
+                let (action, latest) = match close {
+                    6 => (5, kept.latest_vote),
+                    _ => (8, kept.latest_adjust),
+                };
+                if latest != choice {
+                    missed.push(Pending {
+                        action,
+                        sender,
+                        serial: sent - 1,
+                        head,
+                    });
+                }
+            }
+        }
+        self.random.shuffle(&mut missed);
+        for p in missed {
+            self.advance();
+            self.deliver(p);
+        }
+    }
+
+    /// Premise 5 no longer asks for the deliveries left.
+    fn give_up_votes(&mut self) {
+        let given_up = self.must.iter().filter(|p| p.action != 8);
+        self.may.extend(given_up);
+        self.must.retain(|p| p.action == 8);
     }
 
     /// "every correct head either took all of 1, 3 and 4 or was delivered a vote"
@@ -452,10 +641,12 @@ impl Round<'_> {
                     (5, 2) => self.must.is_empty() && self.random.chance(1, 15),
                     _ => false,
                 };
-                let ready = self.must.is_empty() && unready.is_empty();
-                let stalled = self.must.is_empty() && !unready.is_empty();
+                // Adjusts may be on their way from heads that have closed early.
+                let arrived = self.must.iter().all(|p| p.action == 8);
+                let ready = arrived && unready.is_empty();
+                let stalled = arrived && !unready.is_empty();
                 if early || (ready && self.random.chance(1, self.linger)) {
-                    self.may.append(&mut self.must);
+                    self.give_up_votes();
                     self.stage = Stage::VoteClosing;
                 } else if stalled
                     && (self.breaks, self.variant) != (5, 2)
@@ -466,6 +657,7 @@ impl Round<'_> {
                 }
             }
             Stage::VoteClosing => {
+                self.hear_late(6);
                 if self.through(6) == all {
                     self.stage = Stage::Adjusting;
                     if self.random.chance(1, 2) {
@@ -486,6 +678,7 @@ impl Round<'_> {
                 }
             }
             Stage::AdjustClosing => {
+                self.hear_late(9);
                 if self.through(9) == all {
                     self.stage = Stage::After;
                 }
@@ -590,7 +783,13 @@ impl Round<'_> {
             if head == sender && action != 2 {
                 continue;
             }
-            if self.is_correct(sender) && self.is_correct(head) && !late {
+            let is_asked = self.is_correct(sender) && self.is_correct(head);
+            if self.cuts.contains(&[action, sender, head]) {
+                // Premise 4 would be kept by an early close at its delivery.
+                if self.breaks != 4 && self.random.chance(1, 2) {
+                    self.held.push(pending);
+                }
+            } else if (is_asked || self.mood != Mood::Wild) && !late {
                 self.must.push(pending);
             } else {
                 self.may.push(pending);
@@ -642,7 +841,9 @@ impl Round<'_> {
     /// come before a confirmation.
     fn own_tasks(&mut self) -> Vec<Task> {
         let mut tasks = Vec::with_capacity(4 * self.settings.n as usize);
-        let first_close = self.through(9) != 0;
+        // None comes if all others close early.
+        let others_closed = self.through(9) | 1 << self.victim == self.settings.correct;
+        let first_close = self.closed_by_entry(9) != 0 || others_closed;
         for h in 0..self.settings.n {
             if self.is_stopped(h) {
                 continue;
@@ -666,8 +867,14 @@ impl Round<'_> {
             if wish.turn && self.is_open(4, h) {
                 tasks.push(Task::Act(4, h));
             }
+            for (place, &action) in self.spends[h as usize].iter().enumerate() {
+                let is_spent = is_spent(&self.records[h as usize], action);
+                if is_spent && self.random.chance(1, 4) {
+                    tasks.push(Task::Spend(h, place));
+                }
+            }
             let took_turn = self.record(h).adjust_turn;
-            if !self.is_correct(h) {
+            if !self.is_correct(h) && self.mood == Mood::Wild {
                 for action in [6, 7, 9] {
                     if self.is_open(action, h) && self.random.chance(1, 12) {
                         tasks.push(Task::Act(action, h));
@@ -682,8 +889,8 @@ impl Round<'_> {
             if self.stage >= Stage::VoteClosing && self.is_open(6, h) && !self.omits(h, 6) {
                 tasks.push(Task::Act(6, h));
             }
-            if self.stage >= Stage::VoteClosing && self.is_open(7, h) && !self.omits(h, 7) && !waits
-            {
+            let may_turn = self.stage >= Stage::VoteClosing || self.hasty;
+            if may_turn && self.is_open(7, h) && !self.omits(h, 7) && !waits {
                 tasks.push(Task::Act(7, h));
             }
             if self.stage >= Stage::AdjustClosing
@@ -733,6 +940,10 @@ impl Round<'_> {
     fn perform(&mut self, task: Task) {
         match task {
             Task::Act(action, head) => self.emit(action, head, 0, 0),
+            Task::Spend(head, place) => {
+                let action = self.spends[head as usize].remove(place);
+                self.emit(action, head, 0, 0);
+            }
             Task::Restart(x) => self.bursts[x as usize] = None,
             Task::Burst(x) => {
                 let now = self.now;
@@ -752,9 +963,15 @@ impl Round<'_> {
             }
             Task::Must => {
                 let index = self.random.index(self.must.len());
-                let p = self.must.swap_remove(index);
-                let drops = self.breaks == 5 && p.action != 8 && self.variant == 0
-                    || self.breaks == 7 && p.action == 8 && self.variant == 1;
+                let p = self.must[index];
+                if p.action == 5 && self.slow == Some(p.head) && self.random.chance(9, 10) {
+                    return;
+                }
+                self.must.swap_remove(index);
+                let drops = (self.breaks == 5 && p.action != 8 && self.variant == 0
+                    || self.breaks == 7 && p.action == 8 && self.variant == 1)
+                    && self.is_correct(p.sender)
+                    && self.is_correct(p.head);
                 let needless = p.action == 2
                     && ((self.start_reached[p.sender as usize] >> p.head) & 1 == 1
                         || self.wishes[p.sender as usize].confirm);
@@ -797,7 +1014,8 @@ impl Round<'_> {
                     head,
                     ..self.frames[index].0
                 };
-                let lost = self.loss[p.sender as usize][head as usize] == 4;
+                let lost = self.loss[p.sender as usize][head as usize] == 4
+                    || self.cuts.contains(&[p.action, p.sender, head]);
                 if self.may_reach(p) && !lost {
                     self.deliver(p);
                 }
@@ -855,7 +1073,7 @@ impl Round<'_> {
             6 | 8 => {
                 let (close, delivery) = if self.breaks == 6 { (6, 5) } else { (9, 8) };
                 let through = self.through(close);
-                if through == 0 || through == all {
+                if self.closed_by_entry(close) == 0 || through == all {
                     return false;
                 }
                 // A delivery that makes an open head change its choice is drawn
@@ -899,12 +1117,27 @@ impl Round<'_> {
         }
     }
 
+    /// The spent actions that a head still means to take.
+    fn spend_rest(&mut self, head: u32) {
+        let mut rest = std::mem::take(&mut self.spends[head as usize]);
+        rest.retain(|&action| is_spent(self.record(head), action));
+        for action in rest {
+            self.advance();
+            self.emit(action, head, 0, 0);
+        }
+    }
+
     /// After the last correct close: late frames, other entries, and looks in the
     /// same microsecond.
     fn finish(&mut self) {
         self.may.append(&mut self.held);
         for burst in &mut self.bursts {
             *burst = None;
+        }
+        for head in 0..self.settings.n {
+            if self.random.chance(1, 2) {
+                self.spend_rest(head);
+            }
         }
         for _ in 0..self.random.below(4) {
             for _ in 0..self.random.below(2 * u64::from(self.settings.n)) {

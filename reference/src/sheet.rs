@@ -14,6 +14,9 @@ pub struct Run {
     pub entries: Vec<Entry>,
     /// The frame that each entry's head sent at it.
     pub frames: Vec<Option<Frame>>,
+    /// Whether each entry's head has its vote, and its adjust phase, closed early
+    /// after it.
+    pub early: Vec<[bool; 2]>,
     /// "A head ends with its record after the last entry".
     pub records: Vec<Record>,
 }
@@ -105,6 +108,7 @@ pub fn run_observed(
         settings,
         entries: Vec::new(),
         frames: Vec::new(),
+        early: Vec::new(),
         records: (0..settings.n)
             .map(|own| Record::fresh(settings.n, settings.f, own))
             .collect(),
@@ -150,6 +154,7 @@ pub fn run_observed(
         });
         // "Each entry takes the record that its head's last entry left; nothing
         // else writes it."
+        run.early.push([after.vote_early, after.adjust_early]);
         run.records[entry.head as usize] = after;
         run.entries.push(entry);
         run.frames.push(sent);

@@ -1,4 +1,5 @@
-//! "Actions and steps of one head h".
+//! "Actions and steps of one head h", and document 02, No. 4, "Closing when all
+//! have spoken".
 
 use crate::record::{median, Record};
 use crate::words::{has_sender, has_serial, Cause, Reading, TIME_LIMIT};
@@ -103,6 +104,21 @@ pub fn input_fits(n: u32, input: &Input) -> bool {
     true
 }
 
+/// Whether the action is spent: "After an early vote close any action 6, and after
+/// an early adjust close any action 7 or 9, has no effect and isn't cause 9".
+pub fn is_spent(h: &Record, action: u32) -> bool {
+    match action {
+        6 => h.vote_early,
+        7 | 9 => h.adjust_early,
+        _ => false,
+    }
+}
+
+/// Whether the action is cause 9: closed, unless it is spent.
+pub fn is_refused(h: &Record, action: u32, sender: u32) -> bool {
+    !is_spent(h, action) && is_closed(h, action, sender)
+}
+
 /// Whether the action is closed, by the sentence of each action.
 pub fn is_closed(h: &Record, action: u32, sender: u32) -> bool {
     match action {
@@ -126,12 +142,13 @@ pub fn is_closed(h: &Record, action: u32, sender: u32) -> bool {
 
 /// h takes `candidate` and votes. "A vote carries the candidate and h's own
 /// start reading of it, or the mark "none"; it is also h's own vote reading."
-/// "Serials count a head's votes from 0."
+/// "Serials count a head's votes from 0." It is h's own latest vote.
 fn vote(h: &mut Record, candidate: u32) -> Frame {
     let reading = h.kept[candidate as usize].start_reading;
     let serial = h.votes_sent;
     h.candidate = Some(candidate);
     h.kept[h.own as usize].vote_reading = reading;
+    h.kept[h.own as usize].latest_vote = Some(candidate);
     h.votes_sent += 1;
     Frame::Vote {
         serial,
@@ -140,11 +157,12 @@ fn vote(h: &mut Record, candidate: u32) -> Frame {
     }
 }
 
-/// h takes adjuster and adjustment and sends both.
+/// h takes adjuster and adjustment and sends both. It is h's own latest adjust.
 fn adjust(h: &mut Record, adjuster: u32, adjustment: Reading) -> Frame {
     let serial = h.adjusts_sent;
     h.adjuster = Some(adjuster);
     h.adjustment = adjustment;
+    h.kept[h.own as usize].latest_adjust = Some(adjuster);
     h.adjusts_sent += 1;
     Frame::Adjust {
         serial,
@@ -174,7 +192,48 @@ fn is_new(serial: u32, last: Option<u32>) -> bool {
     last.is_none_or(|last| serial > last)
 }
 
-/// The effect of an action that is not refused, on all but the last reading.
+/// Whether these papers call the action without effect on h: a look, what is spent,
+/// and what comes after the close of its phase or with an old serial.
+pub fn is_without_effect(h: &Record, input: &Input) -> bool {
+    let kept = &h.kept[input.sender as usize];
+    match input.action {
+        // "0 look: only time and reading."
+        0 => true,
+        // "No effect after the adjust close."
+        2 => h.adjust_close,
+        // "No effect after the vote close or if the serial isn't above the last
+        // taken from that sender."
+        5 => h.vote_close || !is_new(input.serial, kept.vote_serial),
+        // "as 5, with adjuster and adjustment, until the adjust close"
+        8 => h.adjust_close || !is_new(input.serial, kept.adjust_serial),
+        action => is_spent(h, action),
+    }
+}
+
+/// "a head closes its vote as soon as its own and every other head's latest vote
+/// name its candidate, and the adjust phase likewise with the adjuster, but never
+/// before its vote close; "all" means all n." "vote first"
+fn close_early(h: &mut Record) {
+    let heads = h.n as usize;
+    if let Some(candidate) = h.candidate {
+        let mut latest = h.kept[..heads].iter().map(|kept| kept.latest_vote);
+        if !h.vote_close && latest.all(|vote| vote == Some(candidate)) {
+            h.vote_close = true;
+            h.vote_early = true;
+        }
+    }
+    if let Some(adjuster) = h.adjuster {
+        let mut latest = h.kept[..heads].iter().map(|kept| kept.latest_adjust);
+        let is_open = h.vote_close && !h.adjust_close;
+        if is_open && latest.all(|adjust| adjust == Some(adjuster)) {
+            h.adjust_close = true;
+            h.adjust_early = true;
+        }
+    }
+}
+
+/// What an action does that is neither refused nor without effect, on all but the
+/// last reading.
 fn effect(h: &mut Record, input: &Input) -> Option<Frame> {
     let sender = input.sender as usize;
     match input.action {
@@ -184,12 +243,8 @@ fn effect(h: &mut Record, input: &Input) -> Option<Frame> {
             Some(Frame::Start)
         }
         // "2 start of the sender delivered, one's own too: its start reading
-        // becomes this reading, again at each repeat. No effect after the adjust
-        // close."
+        // becomes this reading, again at each repeat."
         2 => {
-            if h.adjust_close {
-                return None;
-            }
             h.kept[sender].start_reading = Some(Reading(input.reading));
             own_vote(h)
         }
@@ -203,15 +258,12 @@ fn effect(h: &mut Record, input: &Input) -> Option<Frame> {
             h.vote_turn = true;
             own_vote(h)
         }
-        // "5 vote delivered. No effect after the vote close or if the serial
-        // isn't above the last taken from that sender. Otherwise the carried
-        // reading (or none) becomes the sender's vote reading; with no candidate,
-        // or a carried one of higher rank (lower number), h adopts it and votes."
+        // "5 vote delivered. [...] Otherwise the carried reading (or none) becomes
+        // the sender's vote reading; with no candidate, or a carried one of higher
+        // rank (lower number), h adopts it and votes."
         5 => {
-            if h.vote_close || !is_new(input.serial, h.kept[sender].vote_serial) {
-                return None;
-            }
             h.kept[sender].vote_serial = Some(input.serial);
+            h.kept[sender].latest_vote = Some(input.carried_head);
             h.kept[sender].vote_reading = if input.none {
                 None
             } else {
@@ -242,10 +294,8 @@ fn effect(h: &mut Record, input: &Input) -> Option<Frame> {
         // "8 adjust delivered: as 5, with adjuster and adjustment, until the
         // adjust close; taken before the vote close too."
         8 => {
-            if h.adjust_close || !is_new(input.serial, h.kept[sender].adjust_serial) {
-                return None;
-            }
             h.kept[sender].adjust_serial = Some(input.serial);
+            h.kept[sender].latest_adjust = Some(input.carried_head);
             if outranks(input.carried_head, h.adjuster) {
                 let adjustment = Reading(input.carried_reading);
                 return Some(adjust(h, input.carried_head, adjustment));
@@ -257,14 +307,16 @@ fn effect(h: &mut Record, input: &Input) -> Option<Frame> {
             h.adjust_close = true;
             None
         }
-        // "0 look: only time and reading."
+        // A look is without effect.
         _ => None,
     }
 }
 
 /// One step of one head: the record after it and the frame to send, or a
 /// cause, with the record unchanged. "One head: 10, 6, 8, 9." "Every accepted
-/// action makes its reading the last reading".
+/// action makes its reading the last reading". Whether all have spoken "is tested
+/// [...] at the end of each action but looks and those that these papers call
+/// without effect".
 pub fn step(record: &Record, input: &Input) -> Result<(Record, Option<Frame>), Cause> {
     if !record.in_ranges() {
         return Err(Cause(10));
@@ -275,11 +327,15 @@ pub fn step(record: &Record, input: &Input) -> Result<(Record, Option<Frame>), C
     if Reading(input.reading) < record.last_reading {
         return Err(Cause(8));
     }
-    if is_closed(record, input.action, input.sender) {
+    if is_refused(record, input.action, input.sender) {
         return Err(Cause(9));
     }
     let mut after = record.clone();
-    let frame = effect(&mut after, input);
+    let mut frame = None;
+    if !is_without_effect(record, input) {
+        frame = effect(&mut after, input);
+        close_early(&mut after);
+    }
     after.last_reading = Reading(input.reading);
     Ok((after, frame))
 }

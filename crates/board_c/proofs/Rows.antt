@@ -18,7 +18,7 @@ use Rattle.protocol.specs.declared.Verdict.{Verdict}
 use Rattle.protocol.specs.declared.Verdict.the-variants.{Accepted, Refused}
 use Rattle.protocol.specs.declared.Frame.the-variants.{NoFrame}
 use Rattle.protocol.specs.Record.{reading, readingOr0, fresh, recordInRange}
-use Rattle.protocol.specs.Step.{effect, withLast, actionOf, step, refused}
+use Rattle.protocol.specs.Step.{withLast, act, takenAs, actionOf, step, refused}
 use Rattle.protocol.specs.Run.{carriedReading}
 use Rattle.protocol.specs.Causes.{causeNumber, verdictNumber}
 use Rattle.protocol.specs.Row.{rowLength, rowOf, recordIn, rowFits, rowInRange, sentOf}
@@ -50,7 +50,7 @@ module _ (w : List ℕ) (long : length w ≡ rowLength) (h : rowInRange w ≡ tr
 
 module _ (w : List ℕ) (i : Input) where
   abbrev acts : HeadRecord → Stepped
-  acts r = effect (withLast r (reading (i .reading))) (actionOf i)
+  acts r = act (withLast r (reading (i .reading))) (takenAs r (actionOf i))
 
   module _ (long : length w ≡ rowLength) (v : Verdict) (is : v ≡ rowStep w i .verdict) (e : v ≡ Accepted) where
     taken : AcceptedStep w i

@@ -8,7 +8,7 @@ use head_causes::row_verdict;
 use head_ranges::row_in_range;
 use head_result::result_numbers;
 use head_row::fresh_row;
-use head_step::effect;
+use head_step::act;
 use numbers::correction_of;
 use numbers::frame_numbers;
 use numbers::fresh_verdict;
@@ -51,7 +51,7 @@ pub extern "C" fn daisarnica_action(head: &mut Row, input: &[u32; 7], frame: &mu
     let v = row_verdict(head, i);
     match v {
         Verdict::Accepted => {
-            let s = effect(head, i);
+            let s = act(head, i);
             *frame = frame_numbers(s);
             0
         }

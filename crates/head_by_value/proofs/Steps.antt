@@ -17,12 +17,12 @@ use Rattle.protocol.specs.declared.Sent.{Sent}
 use Rattle.protocol.specs.declared.Frame.{Frame}
 use Rattle.protocol.specs.declared.Frame.the-variants.{NoFrame, Start, Vote, Adjust}
 use Rattle.protocol.specs.Record.{reading, recordInRange}
-use Rattle.protocol.specs.Step.{accepted, refused, withLast, effect, takeAction, actionOf, inputFits, step}
+use Rattle.protocol.specs.Step.{accepted, refused, withLast, act, takenAs, takeAction, actionOf, inputFits, step}
 use Rattle.protocol.specs.Row.{rowLength, rowOf, recordIn, rowFits, rowInRange}
 use Rattle.protocol.specs.Board.{rowStep}
 use Rattle.protocol.proofs.Tests.{cases, and-left}
 use Rattle.protocol.proofs.Fits.{input-fits}
-use Rattle.protocol.proofs.Effects.{effect-split, effect-accepted, prepared, prepared-same, sendingOf, send-same}
+use Rattle.protocol.proofs.Effects.{act-split, act-accepted, prepared, prepared-same, sendingOf, send-same}
 use Rattle.protocol.proofs.Laws.{step-answers}
 use Rattle.protocol.proofs.Ranges.{FrameInRange, in-range, input-in-range, take-in-range, step-in-range}
 use Rattle.head_row.specs.Promises.{Acts}
@@ -33,7 +33,7 @@ use Rattle.head_causes.proofs.Verdicts.{out-of-range}
 use Rattle.head_causes.proofs.Taken.{AcceptedStep, accepted-step}
 use Rattle.head_record.specs.Bytes.{Holds, FrameSized, StandsFor}
 
--- a row of eighty numbers is that of a record with sixteen senders
+-- a row of that length is that of a record with sixteen senders
 sixteen-of : (r : HeadRecord) → length (rowOf r) ≡ rowLength → length (r .senders) ≡ 16
 unfolding rowOf
 sixteen-of r e = let sum = simp (length-append, length-map) at e in omega arith
@@ -51,7 +51,7 @@ module _ (r : HeadRecord) (i : Input) (row : List ℕ) (is-row : row ≡ rowOf r
 
   -- what the action does to a record
   abbrev acts : HeadRecord → Stepped
-  acts s = effect (withLast s (reading (i .reading))) (actionOf i)
+  acts s = act (withLast s (reading (i .reading))) (takenAs s (actionOf i))
 
   abbrev done : Stepped
   done = acts r
@@ -105,8 +105,8 @@ module _ (r : HeadRecord) (i : Input) (row : List ℕ) (is-row : row ≡ rowOf r
       after-sixteen : length (done .after .senders) ≡ 16
       after-sixteen =
           let s = withLast r (reading (i .reading)) in
-          ap (λ (t : Stepped). length (t .after .senders)) (effect-split s (actionOf i))
-          ∙ send-same (sendingOf s (actionOf i)) (prepared s (actionOf i)) .size ∙ prepared-same s (actionOf i) .size ∙ sixteen
+          let a = takenAs r (actionOf i) in
+          ap (λ (t : Stepped). length (t .after .senders)) (act-split s a) ∙ send-same (sendingOf s a) (prepared s a) .size ∙ prepared-same s a .size ∙ sixteen
 
       frame-fits : FrameSized (done .frame)
       frame-fits =
@@ -123,4 +123,4 @@ module _ (r : HeadRecord) (i : Input) (row : List ℕ) (is-row : row ≡ rowOf r
           let in-it : rowInRange row' ≡ true = ap rowInRange (gives .0) ∙ range-of-row (done .after) after-sixteen ∙ after-ranged in
           let after-is : after ≡ done .after = holds in-it ∙ ap recordIn (gives .0) ∙ record-of-row (done .after) after-ranged after-sixteen in
           ap₂ accepted after-is (stands (done .frame) frame-fits (gives .1))
-          ∙ effect-accepted (withLast r (reading (i .reading))) (actionOf i) ∙ sym answer
+          ∙ act-accepted (withLast r (reading (i .reading))) (takenAs r (actionOf i)) ∙ sym answer

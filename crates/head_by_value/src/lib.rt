@@ -9,7 +9,7 @@ use head_causes::row_verdict;
 use head_record::frame_in;
 use head_record::record_in;
 use head_record::row_of;
-use head_step::effect;
+use head_step::act;
 use protocol::Frame;
 use protocol::HeadRecord;
 use protocol::Input;
@@ -26,7 +26,7 @@ pub fn step(r: HeadRecord, i: Input) -> Stepped
     let v = row_verdict(&row, i);
     match v {
         Verdict::Accepted => {
-            let s = effect(&mut row, i);
+            let s = act(&mut row, i);
             let after = record_in(&row);
             let frame = frame_in(s);
             Stepped {

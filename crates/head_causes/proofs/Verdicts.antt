@@ -1,7 +1,7 @@
 -- The verdict on an action, by the tests made of the head's row.
--- Main results: `out-of-range`, `does-not-fit`, `reading-falls`, `is-shut`, `is-taken`.
+-- Main results: `out-of-range`, `does-not-fit`, `reading-falls`, `spent-is-taken`, `is-shut`, `is-taken`.
 use mathlib.Core.Path.{_≡_, refl, sym, _∙_, ap, ap₂}
-use mathlib.Core.Bool.{Bool, true, false, _&&_, _||_}
+use mathlib.Core.Bool.{Bool, true, false, cond, _&&_, _||_}
 use mathlib.Core.List.{List}
 use mathlib.Core.Logic.{_≢_}
 use Prim.Native.Nat.{ℕ, _≤_, _<_}
@@ -10,16 +10,18 @@ use lib.ListN.{getD}
 use borrow.Author.Tests.{lt-ltb, le-ltb, ne-eqb, eqb-true, leb-true}
 use Rattle.protocol.specs.declared.HeadRecord.{HeadRecord}
 use Rattle.protocol.specs.declared.Input.{Input}
+use Rattle.protocol.specs.declared.Action.{Action}
+use Rattle.protocol.specs.declared.Action.the-variants.{Look}
 use Rattle.protocol.specs.declared.Stepped.{Stepped}
 use Rattle.protocol.specs.declared.Verdict.the-variants.{Accepted, Refused}
 use Rattle.protocol.specs.declared.Cause.the-variants.{BadEntry, ReadingFell, ActionClosed, BadRecord}
 use Rattle.protocol.specs.Words.{hasSerial}
 use Rattle.protocol.specs.Record.{reading, marksNumber, recordInRange}
-use Rattle.protocol.specs.Step.{isClosed, closedBy, takeAction, withLast, actionOf, inputFits, step}
+use Rattle.protocol.specs.Step.{withLast, isClosed, closedBy, isSpent, takenAs, takeAction, actionOf, inputFits, step}
 use Rattle.protocol.specs.Row.{recordIn, rowFits, rowInRange}
 use Rattle.protocol.specs.Board.{rowStep}
 use Rattle.protocol.proofs.Tests.{absurd-bool, and-left, and-right}
-use Rattle.protocol.proofs.Effects.{effect-accepted}
+use Rattle.protocol.proofs.Effects.{act-accepted}
 use Rattle.head_open.proofs.Marks.{closed-by-marks, made-of}
 
 -- WHEN AN ACTION IS CLOSED, by the caller's numbers
@@ -84,17 +86,40 @@ module _ (w : List ℕ) (i : Input) where
       unfolding rowFits
       marks-are = eqb-true _ _ (and-left (eqb (getD w 1 0) (marksNumber (recordIn w))) _ fits)
 
+      action-below : i .action ≤ 9
+      unfolding inputFits
+      action-below = leb-true (i .action) 9 (and-left (leb (i .action) 9) _ f)
+
       closed-is : isClosed (recordIn w) (actionOf i) ≡ closedAt i (getD w 9 0) (getD w 1 0) (i .action)
-      unfolding inputFits recordIn
+      unfolding recordIn
       closed-is =
-          closed-at i (recordIn w) (leb-true (i .action) 9 (and-left (leb (i .action) 9) _ f))
+          closed-at i (recordIn w) action-below
           ∙ ap (λ (m : ℕ). closedAt i (getD w 9 0) m (i .action)) (sym marks-are)
 
-      module _ (rises : getD w 0 0 ≤ i .reading) (b : Bool) (is : b ≡ closedAt i (getD w 9 0) (getD w 1 0) (i .action)) where
-        pub is-shut : b ≡ true → Refused ActionClosed ≡ rowStep w i .verdict
-        unfolding takeAction recordIn
-        is-shut e = rw (taken, le-ltb _ _ rises, closed-is, sym is ∙ e) refl
+      -- a spent action is taken as a look; the row's marks of early closes are its record's
+      module _ (spent : Bool) (spent-is : spent ≡ isSpent (i .action) (eqb (getD w 10 0) 1) (eqb (getD w 11 0) 1)) where
+        taken-is : takenAs (recordIn w) (actionOf i) ≡ cond spent Look (actionOf i)
+        unfolding takenAs recordIn
+        taken-is =
+            ap (λ (b : Bool). cond b Look (actionOf i))
+            (ap (λ (k : ℕ). isSpent k (eqb (getD w 10 0) 1) (eqb (getD w 11 0) 1)) (made-of (recordIn w) i action-below .0) ∙ sym spent-is)
 
-        pub is-taken : b ≡ false → Accepted ≡ rowStep w i .verdict
-        unfolding takeAction recordIn
-        is-taken e = rw (taken, le-ltb _ _ rises, closed-is, sym is ∙ e) (ap (λ (t : Stepped). t .verdict) (effect-accepted (withLast (recordIn w) (reading (i .reading))) (actionOf i)))
+        module _ (rises : getD w 0 0 ≤ i .reading) where
+          verdict-of : (a : Action) → cond spent Look (actionOf i) ≡ a → (b : Bool) → isClosed (recordIn w) a ≡ b
+              → cond b (Refused ActionClosed) Accepted ≡ rowStep w i .verdict
+          unfolding takeAction recordIn
+          verdict-of a e true c = rw (taken, le-ltb _ _ rises, taken-is, e, c) refl
+          verdict-of a e false c =
+              rw (taken, le-ltb _ _ rises, taken-is, e, c)
+              (ap (λ (t : Stepped). t .verdict) (act-accepted (withLast (recordIn w) (reading (i .reading))) a))
+
+          pub spent-is-taken : spent ≡ true → Accepted ≡ rowStep w i .verdict
+          unfolding isClosed
+          spent-is-taken s = verdict-of Look (rw s refl) false refl
+
+          module _ (s : spent ≡ false) (b : Bool) (is : b ≡ closedAt i (getD w 9 0) (getD w 1 0) (i .action)) where
+            pub is-shut : b ≡ true → Refused ActionClosed ≡ rowStep w i .verdict
+            is-shut e = verdict-of (actionOf i) (rw s refl) true (closed-is ∙ sym is ∙ e)
+
+            pub is-taken : b ≡ false → Accepted ≡ rowStep w i .verdict
+            is-taken e = verdict-of (actionOf i) (rw s refl) false (closed-is ∙ sym is ∙ e)

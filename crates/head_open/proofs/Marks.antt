@@ -8,6 +8,7 @@ use native.Mathlib.Nat.{not-suc-le-zero, le-of-suc-le-suc, pow-succ', div-div-eq
 use native.Mathlib.Omega.{arith}
 use lib.Dec.{eqb, lit<}
 use lib.ListN.{length, getD, set}
+use borrow.Author.Tests.{ne-eqb}
 use Rattle.protocol.specs.declared.Reading.{Reading}
 use Rattle.protocol.specs.declared.HeadRecord.{HeadRecord}
 use Rattle.protocol.specs.declared.Input.{Input}
@@ -15,8 +16,8 @@ use Rattle.protocol.specs.declared.Action.{Action}
 use Rattle.protocol.specs.declared.Action.the-variants.{Look, StartSent, StartDelivered, StartConfirmed, VoteTurn, VoteDelivered, VoteClose, AdjustTurn, AdjustDelivered, AdjustClose}
 use Rattle.protocol.specs.Words.{hasSerial}
 use Rattle.protocol.specs.Record.{isNumber, markNumber, marksNumber}
-use Rattle.protocol.specs.Step.{takeTurn, close, choose, withMarks, withVote, withAdjust, number, isOwnFrame, isClosedByMarks, hasMark, closedBy, actionsOf, actionOf}
-use Rattle.protocol.proofs.Tests.{cases}
+use Rattle.protocol.specs.Step.{takeTurn, close, choose, withMarks, withVote, withAdjust, number, isOwnFrame, isClosedByMarks, hasMark, closedBy, isSpent, actionsOf, actionOf}
+use Rattle.protocol.proofs.Tests.{cases, is-1}
 
 -- ANY MARKS: the first has weight 1, each further one twice the weight of the one before
 abbrev pub weightOf : List Bool → ℕ
@@ -26,10 +27,6 @@ weightOf (b ∷ l) = markNumber b 1 + 2 * weightOf l
 at-most-1 : (b : Bool) → markNumber b 1 ≤ 1
 at-most-1 true = omega arith
 at-most-1 false = omega arith
-
-is-1 : (b : Bool) → eqb (markNumber b 1) 1 ≡ b
-is-1 true = refl
-is-1 false = refl
 
 weight-below : (l : List Bool) → weightOf l < 2 ^ length l
 weight-below [] = omega arith
@@ -190,3 +187,7 @@ not-closed (suc (suc (suc (suc (suc (suc (suc zero))))))) m n1 n3 n4 n6 n7 n9 = 
 not-closed (suc (suc (suc (suc (suc (suc (suc (suc zero)))))))) m n1 n3 n4 n6 n7 n9 = refl
 not-closed (suc (suc (suc (suc (suc (suc (suc (suc (suc zero))))))))) m n1 n3 n4 n6 n7 n9 = absurd (n9 refl)
 not-closed (suc (suc (suc (suc (suc (suc (suc (suc (suc (suc a)))))))))) m n1 n3 n4 n6 n7 n9 = refl
+
+-- and none but 6, 7 and 9 is spent
+pub not-spent : (a : ℕ) (vote adjust : Bool) → a ≢ 6 → a ≢ 7 → a ≢ 9 → false ≡ isSpent a vote adjust
+not-spent a vote adjust n6 n7 n9 = rw (ne-eqb a 6 n6, ne-eqb a 7 n7, ne-eqb a 9 n9) refl

@@ -1,9 +1,9 @@
-// A head's marks in one number, as its row has them, and when they close an action.
+// A head's marks in one number, as its row has them, and when they close an action; when an action is spent.
 use protocol::mark;
 ghost use mathlib.Core.Path.{_≡_};
 ghost use mathlib.Core.Bool.{cond};
 ghost use Prim.Native.Nat.{_+_, _%_, _^_, _<_};
-ghost use Rattle.protocol.specs.Step.{hasMark, closedBy};
+ghost use Rattle.protocol.specs.Step.{hasMark, closedBy, isSpent};
 
 pub fn has_mark(marks: u32, weight: u32) -> bool
     requires { ⌜ 0 < weight ⌝ }
@@ -37,6 +37,18 @@ pub fn closed_by(a: u32, m: u32) -> bool
         7 => !has_mark(m, mark::VOTE_CLOSE)
             || (has_mark(m, mark::ADJUST_TURN) || has_mark(m, mark::ADJUST_CLOSE)),
         9 => !has_mark(m, mark::VOTE_CLOSE) || has_mark(m, mark::ADJUST_CLOSE),
+        _ => false,
+    }
+}
+
+// Whether an action is spent: accepted and without effect, since its phase was closed early. The two tell which phases were.
+pub fn is_spent(a: u32, vote: bool, adjust: bool) -> bool
+    ensures { λ b. ⌜ b ≡ isSpent a vote adjust ⌝ }
+{
+    match a {
+        6 => vote,
+        7 => adjust,
+        9 => adjust,
         _ => false,
     }
 }

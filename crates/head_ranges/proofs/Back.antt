@@ -2,7 +2,7 @@
 -- is in its ranges exactly if its record is. So nothing is lost between one action and the next.
 -- Main results: `row-of-record`, `record-of-row`, `range-of-row`.
 use mathlib.Core.Path.{_≡_, refl, sym, _∙_, ap, ap₂, subst}
-use mathlib.Core.Bool.{Bool, true, cond, _&&_, _||_}
+use mathlib.Core.Bool.{Bool, true, false, cond, _&&_, _||_}
 use mathlib.Core.List.{List, _++_, map}
 use Prim.Native.Nat.{ℕ, zero, suc, _+_, _-_, _^_, _<_}
 use native.Mathlib.Omega.{arith}
@@ -17,13 +17,13 @@ use Rattle.protocol.specs.declared.Sender.{Sender}
 use Rattle.protocol.specs.declared.HeadRecord.{HeadRecord}
 use Rattle.protocol.specs.Base.{allBelow, table}
 use Rattle.protocol.specs.Words.{isTime, headsFit}
-use Rattle.protocol.specs.Record.{isReading, isNumber, readingOr0, noSender, keptOf, startOf, voteOf, marksNumber, readingInRange, senderInRange, senderIsNone, phaseInRange, marksInRange, recordInRange}
-use Rattle.protocol.specs.Row.{numberPlus1, readingPlus1, ownNumbers, startNumber, voteNumber, votedNumber, adjustedNumber, rowLength, rowOf, numberIn, readingIn, senderIn, recordIn, rowFits, rowInRange}
-use Rattle.protocol.proofs.Tests.{cases, and-left, and-right, parts}
+use Rattle.protocol.specs.Record.{isReading, isNumber, readingOr0, noSender, keptOf, startOf, voteOf, votes, adjusts, markNumber, marksNumber, readingInRange, senderInRange, senderIsNone, phaseInRange, marksInRange, recordInRange}
+use Rattle.protocol.specs.Row.{numberPlus1, readingPlus1, ownNumbers, startNumber, voteNumber, votedNumber, adjustedNumber, latestNumber, rowLength, rowOf, numberIn, readingIn, senderIn, recordIn, rowFits, rowInRange}
+use Rattle.protocol.proofs.Tests.{cases, and-left, and-right, parts, is-1}
 use Rattle.protocol.proofs.Tables.{length-table, table-at, is-table}
 use Rattle.protocol.proofs.Effects.{withSenders}
 use Rattle.protocol.proofs.Ranges.{InRange, in-range}
-use Rattle.head_row.proofs.Rows.{start-read, vote-read, voted-read, adjusted-read}
+use Rattle.head_row.proofs.Rows.{start-read, vote-read, voted-read, adjusted-read, latest-read}
 use Rattle.head_open.proofs.Marks.{has-started, has-confirmed, has-vote-turn, has-vote-closed, has-adjust-turn, has-adjust-closed}
 
 -- ONE NUMBER
@@ -35,6 +35,16 @@ number-back (SomeNumber k) = let same : k + 1 - 1 ≡ k = omega arith in rw (ne-
 number-forth : (k : ℕ) → numberPlus1 (numberIn k) ≡ k
 number-forth zero = refl
 number-forth (suc k) = rw (ne-eqb (suc k) 0 (λ z. omega arith)) (omega arith)
+
+-- the mark of an early close, as 0 or 1
+mark-below-2 : (b : Bool) → ltb (markNumber b 1) 2 ≡ true
+mark-below-2 true = refl
+mark-below-2 false = refl
+
+early-forth : (k : ℕ) → ltb k 2 ≡ true → markNumber (eqb k 1) 1 ≡ k
+early-forth zero t = refl
+early-forth (suc zero) t = refl
+early-forth (suc (suc k)) t = absurd (let below = ltb-true (suc (suc k)) 2 t in omega arith)
 
 reading-back : (x : OptReading) → readingOr0 x < 2 ^ 28 → readingIn (readingPlus1 x) ≡ x
 reading-back NoReading below = refl
@@ -76,6 +86,8 @@ heldOf k =
       vote = readingIn (readingPlus1 (k .vote));
       voted = k .voted;
       adjusted = k .adjusted;
+      candidate = k .candidate;
+      adjuster = k .adjuster;
     }
 
 held-back : (k : Sender) → readingOr0 (k .start) < 2 ^ 28 → readingOr0 (k .vote) < 2 ^ 28 → heldOf k ≡ k
@@ -93,6 +105,8 @@ held-but-senders r =
       has-vote-closed r,
       has-adjust-turn r,
       has-adjust-closed r,
+      is-1 (r .vote .early),
+      is-1 (r .adjust .early),
       number-back (r .vote .choice),
       number-back (r .adjust .choice),
     ) refl
@@ -109,12 +123,16 @@ module _ (r : HeadRecord) (long : length (r .senders) ≡ 16) where
         vote-read r long p short,
         voted-read r long p short,
         adjusted-read r long p short,
+        latest-read r long p short votes,
+        latest-read r long p short adjusts,
         number-back (keptOf r p .voted),
         number-back (keptOf r p .adjusted),
+        number-back (keptOf r p .candidate),
+        number-back (keptOf r p .adjuster),
       ) refl
 
   abbrev keptTest : ℕ → Sender → Bool
-  keptTest p k = cond (ltb p (r .n)) (senderInRange k) (senderIsNone k)
+  keptTest p k = cond (ltb p (r .n)) (senderInRange (r .n) k) (senderIsNone k)
 
   test-held : (p : ℕ) (k : Sender) → keptTest p (heldOf k) ≡ keptTest p k
   unfolding senderInRange senderIsNone
@@ -124,7 +142,7 @@ module _ (r : HeadRecord) (long : length (r .senders) ≡ 16) where
   unfolding rowFits rowOf marksNumber
   row-fits =
       let same : marksNumber (recordIn (rowOf r)) ≡ marksNumber r = ap marksNumber (held-but-senders r) in
-      rw (eq-eqb (marksNumber r) (marksNumber (recordIn (rowOf r))) (sym same)) refl
+      rw (eq-eqb (marksNumber r) (marksNumber (recordIn (rowOf r))) (sym same), mark-below-2 (r .vote .early), mark-below-2 (r .adjust .early)) refl
 
   range-by-senders : (l : List Sender) → ((p : ℕ) → p < 16 → keptTest p (getD l p noSender) ≡ keptTest p (keptOf r p))
       → recordInRange (withSenders r l) ≡ recordInRange r
@@ -178,8 +196,8 @@ module _ (w : List ℕ) (long : length w ≡ rowLength) (e : rowInRange w ≡ tr
         ← marks,
         number-forth (at 2),
         number-forth (at 4),
-        eqb-true (at 10) 0 (search parts depth 9),
-        eqb-true (at 11) 0 (search parts depth 9),
+        early-forth (at 10) (search parts depth 9),
+        early-forth (at 11) (search parts depth 9),
         eqb-true (at 12) 0 (search parts depth 9),
         eqb-true (at 13) 0 (search parts depth 9),
         eqb-true (at 14) 0 (search parts depth 9),
@@ -203,4 +221,6 @@ module _ (w : List ℕ) (long : length w ≡ rowLength) (e : rowInRange w ≡ tr
       (ap₂ _++_ (field-part startNumber 16 (λ p short. sym (reading-forth (at (16 + p)) (readings p short .0))))
       (ap₂ _++_ (field-part voteNumber 32 (λ p short. sym (reading-forth (at (32 + p)) (readings p short .1))))
       (ap₂ _++_ (field-part votedNumber 48 (λ p short. sym (number-forth (at (48 + p)))))
-      (field-part adjustedNumber 64 (λ p short. sym (number-forth (at (64 + p))))))))
+      (ap₂ _++_ (field-part adjustedNumber 64 (λ p short. sym (number-forth (at (64 + p)))))
+      (ap₂ _++_ (field-part (latestNumber votes) 80 (λ p short. sym (number-forth (at (80 + p)))))
+      (field-part (latestNumber adjusts) 96 (λ p short. sym (number-forth (at (96 + p))))))))))

@@ -17,7 +17,7 @@ use Rattle.protocol.specs.Record.{isNumber, markNumber, marksNumber, sentInRang
 use Rattle.protocol.specs.Step.{hasMark}
 use Rattle.protocol.specs.Row.{numberIn, recordIn}
 use Rattle.protocol.proofs.Tests.{cases}
-use Rattle.head_ranges.specs.Parts.{spareIsZero, marksAllowed, exceeds}
+use Rattle.head_ranges.specs.Parts.{marksAllowed, exceeds}
 
 -- tests of numbers that hold of the same
 same-test : (a b : Bool) → (a ≡ true → b ≡ true) → (b ≡ true → a ≡ true) → a ≡ b
@@ -79,10 +79,8 @@ or-zero a b =
     cases (eqb a 0) (λ t. rw (eqb-true a 0 t, or-zero-l b) refl)
     (λ t. let some = eqb-false a 0 t in let sum = or-add-and a b in let low = and-le-r a b in rw t (ne-eqb (bitOr a b) 0 (λ z. omega arith)))
 
-pub spare-zero : (w : List ℕ)
-    → eqb (bitOr (getD w 10 0) (bitOr (getD w 11 0) (bitOr (getD w 12 0) (bitOr (getD w 13 0) (bitOr (getD w 14 0) (getD w 15 0)))))) 0 ≡ spareIsZero w
-unfolding spareIsZero
-spare-zero w = simp or-zero
+pub spare-zero : (a b c d : ℕ) → eqb (bitOr a (bitOr b (bitOr c d))) 0 ≡ (eqb a 0 && (eqb b 0 && (eqb c 0 && eqb d 0)))
+spare-zero a b c d = simp or-zero
 
 -- THE BENCH: 2f + 1 is at most n
 pub half-of-heads : (n f : ℕ) → ltb f ((n + 1) / 2) ≡ leb (2 * f + 1) n

@@ -9,9 +9,11 @@ use native.Mathlib.Omega.{arith}
 use lib.Dec.{ltb, eqb, leb·suc-suc}
 use lib.ListN.{getD}
 use borrow.Author.Tests.{ltb-true, ltb-false, lt-ltb, le-ltb, eqb-true, eqb-false, eq-eqb, ne-eqb}
+use Rattle.protocol.specs.declared.OptNumber.{OptNumber}
+use Rattle.protocol.specs.declared.OptNumber.the-variants.{NoNumber, SomeNumber}
 use Rattle.protocol.specs.declared.Sender.{Sender}
 use Rattle.protocol.specs.Base.{allBelow}
-use Rattle.protocol.specs.Record.{isReading, isNumber, readingInRange, serialInRange, senderInRange, senderIsNone}
+use Rattle.protocol.specs.Record.{isReading, isNumber, readingInRange, serialInRange, nameInRange, senderInRange, senderIsNone}
 use Rattle.protocol.specs.Row.{numberIn, readingIn, senderIn, recordIn}
 use Rattle.protocol.proofs.Tests.{cases, cond-elim}
 use Rattle.head_ranges.specs.Parts.{greatest, exceeds, beyond, sendersInRange}
@@ -43,13 +45,20 @@ reading-within (suc k) =
     let same : suc k - 1 ≡ k = omega arith in
     within-range (2 ^ 28) k ∙ rw (ne-eqb (suc k) 0 (λ z. omega arith), same) refl
 
-serial-within : (x : ℕ) → within 16 x ≡ serialInRange (numberIn x)
-serial-within zero = refl
-serial-within (suc k) =
+name-within : (n x : ℕ) → within n x ≡ nameInRange n (numberIn x)
+name-within n zero = rw (le-ltb n 0 (omega arith)) refl
+name-within n (suc k) =
     let same : suc k - 1 ≡ k = omega arith in
-    within-range 16 k ∙ rw (ne-eqb (suc k) 0 (λ z. omega arith), same) (leb·suc-suc k 15)
+    within-range n k ∙ rw (ne-eqb (suc k) 0 (λ z. omega arith), same) refl
 
--- A SENDER'S FOUR NUMBERS
+below-16 : (m : OptNumber) → nameInRange 16 m ≡ serialInRange m
+below-16 NoNumber = refl
+below-16 (SomeNumber k) = leb·suc-suc k 15
+
+serial-within : (x : ℕ) → within 16 x ≡ serialInRange (numberIn x)
+serial-within x = name-within 16 x ∙ below-16 (numberIn x)
+
+-- A SENDER'S SIX NUMBERS
 
 sum-zero : (a b : ℕ) → eqb (a + b) 0 ≡ (eqb a 0 && eqb b 0)
 sum-zero a b =
@@ -62,50 +71,62 @@ sum-zero a b =
 at-most-1 : (most x : ℕ) → exceeds most x ≤ 1
 at-most-1 most x = cond-elim (λ (k : ℕ). k ≤ 1) (ltb most x) (λ _. omega arith) (λ _. omega arith)
 
-module _ (reading serial a b c d : ℕ) where
-  four-within : eqb (exceeds reading a + exceeds reading b + (exceeds serial c + exceeds serial d)) 0
-      ≡ (within reading a && (within reading b && (within serial c && within serial d)))
-  four-within =
-      sum-zero (exceeds reading a + exceeds reading b) (exceeds serial c + exceeds serial d)
-      ∙ ap₂ _&&_ (sum-zero (exceeds reading a) (exceeds reading b)) (sum-zero (exceeds serial c) (exceeds serial d))
-      ∙ and-assoc (within reading a) (within reading b) (within serial c && within serial d)
+module _ (reading serial name a b c d e f : ℕ) where
+  abbrev sixBeyond : ℕ
+  sixBeyond =
+      exceeds reading a + exceeds reading b + (exceeds serial c + exceeds serial d) + (exceeds name e + exceeds name f)
 
-  at-most-4 : exceeds reading a + exceeds reading b + (exceeds serial c + exceeds serial d) ≤ 4
-  at-most-4 =
+  six-within : eqb sixBeyond 0
+      ≡ (within reading a && (within reading b && (within serial c && (within serial d && (within name e && within name f)))))
+  six-within = simp (sum-zero, and-assoc)
+
+  at-most-6 : sixBeyond ≤ 6
+  at-most-6 =
       let i = at-most-1 reading a in let j = at-most-1 reading b in let k = at-most-1 serial c in let l = at-most-1 serial d in
+      let g = at-most-1 name e in let h = at-most-1 name f in
       omega arith
 
 -- of a sender of the bench or of no sender
-four-fit : (here : Bool) (a b c d : ℕ)
-    → (let kept : Sender = record { start = readingIn a; vote = readingIn b; voted = numberIn c; adjusted = numberIn d } in
-    eqb (exceeds (cond here (2 ^ 28) 0) a + exceeds (cond here (2 ^ 28) 0) b + (exceeds (cond here 16 0) c + exceeds (cond here 16 0) d)) 0
-    ≡ cond here (senderInRange kept) (senderIsNone kept))
+six-fit : (here : Bool) (n a b c d e f : ℕ)
+    → (let kept : Sender = record { start = readingIn a; vote = readingIn b; voted = numberIn c; adjusted = numberIn d; candidate = numberIn e; adjuster = numberIn f } in
+    eqb (sixBeyond (cond here (2 ^ 28) 0) (cond here 16 0) (cond here n 0) a b c d e f) 0 ≡ cond here (senderInRange n kept) (senderIsNone kept))
 unfolding senderInRange senderIsNone
-four-fit true a b c d =
-    four-within (2 ^ 28) 16 a b c d ∙ ap₂ _&&_ (reading-within a) (ap₂ _&&_ (reading-within b) (ap₂ _&&_ (serial-within c) (serial-within d)))
-four-fit false a b c d =
-    four-within 0 0 a b c d ∙ ap₂ _&&_ (reading-none a) (ap₂ _&&_ (reading-none b) (ap₂ _&&_ (number-none c) (number-none d)))
+six-fit true n a b c d e f =
+    six-within (2 ^ 28) 16 n a b c d e f
+    ∙ ap₂ _&&_ (reading-within a) (ap₂ _&&_ (reading-within b) (ap₂ _&&_ (serial-within c) (ap₂ _&&_ (serial-within d)
+    (ap₂ _&&_ (name-within n e) (name-within n f)))))
+six-fit false n a b c d e f =
+    six-within 0 0 0 a b c d e f
+    ∙ ap₂ _&&_ (reading-none a) (ap₂ _&&_ (reading-none b) (ap₂ _&&_ (number-none c) (ap₂ _&&_ (number-none d)
+    (ap₂ _&&_ (number-none e) (number-none f)))))
 
 module _ (w : List ℕ) (p : ℕ) where
-  beyond-at-most-4 : beyond w p ≤ 4
+  abbrev heads : ℕ
+  heads = getD w 7 0
+
+  beyond-at-most-6 : beyond w p ≤ 6
   unfolding beyond
-  beyond-at-most-4 =
-      at-most-4 (greatest (getD w 7 0) p (2 ^ 28)) (greatest (getD w 7 0) p 16) (getD w (16 + p) 0) (getD w (32 + p) 0) (getD w (48 + p) 0)
-      (getD w (64 + p) 0)
+  beyond-at-most-6 =
+      at-most-6 (greatest heads p (2 ^ 28)) (greatest heads p 16) (greatest heads p heads) (getD w (16 + p) 0) (getD w (32 + p) 0)
+      (getD w (48 + p) 0) (getD w (64 + p) 0) (getD w (80 + p) 0) (getD w (96 + p) 0)
 
   -- counted one by one
-  pub counted : (reading serial a b c d : ℕ) → reading ≡ greatest (getD w 7 0) p (2 ^ 28) → serial ≡ greatest (getD w 7 0) p 16
+  pub counted : (reading serial name a b c d e f : ℕ)
+      → reading ≡ greatest heads p (2 ^ 28) → serial ≡ greatest heads p 16 → name ≡ greatest heads p heads
       → a ≡ exceeds reading (getD w (16 + p) 0) → b ≡ exceeds reading (getD w (32 + p) 0)
-      → c ≡ exceeds serial (getD w (48 + p) 0) → d ≡ exceeds serial (getD w (64 + p) 0) → a + b + (c + d) ≡ beyond w p
+      → c ≡ exceeds serial (getD w (48 + p) 0) → d ≡ exceeds serial (getD w (64 + p) 0)
+      → e ≡ exceeds name (getD w (80 + p) 0) → f ≡ exceeds name (getD w (96 + p) 0) → a + b + (c + d) + (e + f) ≡ beyond w p
   unfolding beyond
-  counted reading serial a b c d e f i j k l = rw (i, j, k, l, e, f) refl
+  counted reading serial name a b c d e f g h i j k l m o q = rw (j, k, l, m, o, q, g, h, i) refl
 
   abbrev senderFits : Bool
-  senderFits = cond (ltb p (getD w 7 0)) (senderInRange (senderIn w p)) (senderIsNone (senderIn w p))
+  senderFits = cond (ltb p heads) (senderInRange heads (senderIn w p)) (senderIsNone (senderIn w p))
 
   beyond-zero : eqb (beyond w p) 0 ≡ senderFits
   unfolding beyond
-  beyond-zero = four-fit (ltb p (getD w 7 0)) (getD w (16 + p) 0) (getD w (32 + p) 0) (getD w (48 + p) 0) (getD w (64 + p) 0)
+  beyond-zero =
+      six-fit (ltb p heads) heads (getD w (16 + p) 0) (getD w (32 + p) 0) (getD w (48 + p) 0) (getD w (64 + p) 0) (getD w (80 + p) 0)
+      (getD w (96 + p) 0)
 
 -- ALL SENDERS
 module _ (w : List ℕ) where
@@ -114,9 +135,9 @@ module _ (w : List ℕ) where
   beyondBelow zero = 0
   beyondBelow (suc p) = beyondBelow p + beyond w p
 
-  sum-at-most : (p : ℕ) → beyondBelow p ≤ 4 * p
+  sum-at-most : (p : ℕ) → beyondBelow p ≤ 6 * p
   sum-at-most zero = omega arith
-  sum-at-most (suc p) = let ih = sum-at-most p in let four = beyond-at-most-4 w p in omega arith
+  sum-at-most (suc p) = let ih = sum-at-most p in let six = beyond-at-most-6 w p in omega arith
 
   sum-none : (k : ℕ) → eqb (beyondBelow k) 0 ≡ allBelow k (senderFits w)
   sum-none zero = refl
@@ -132,8 +153,8 @@ module _ (w : List ℕ) where
     pub sum-next : (k : ℕ) → k ≡ beyond w p → bad + k ≡ beyondBelow (p + 1)
     sum-next k e = rw (add-one, is, e) refl
 
-    pub sum-fits : (k : ℕ) → k ≡ beyond w p → p < 16 → bad + k ≤ 64
-    sum-fits k e below = let s = sum-at-most p in let four = beyond-at-most-4 w p in omega arith
+    pub sum-fits : (k : ℕ) → k ≡ beyond w p → p < 16 → bad + k ≤ 96
+    sum-fits k e below = let s = sum-at-most p in let six = beyond-at-most-6 w p in omega arith
 
     pub sum-tested : p ≤ 16 → 16 ≤ p → eqb bad 0 ≡ sendersInRange (recordIn w)
     sum-tested below end = let all : p ≡ 16 = omega arith in ap (λ (x : ℕ). eqb x 0) (is ∙ ap beyondBelow all) ∙ none-beyond

@@ -1,5 +1,5 @@
--- Tests of a row in parts: the numbers that stand for nothing, the marks, and what is kept by sender; and a sender's numbers
--- against the greatest that may stand there.
+-- Tests of a row in parts: the early marks and the numbers that stand for nothing, the marks, and what is kept by sender; and a
+-- sender's numbers against the greatest that may stand there.
 use mathlib.Core.Bool.{Bool, cond, _&&_, _||_}
 use mathlib.Core.List.{List}
 use Prim.Native.Nat.{ℕ, _+_, _^_}
@@ -11,9 +11,9 @@ use Rattle.protocol.specs.Record.{keptOf, senderInRange, senderIsNone}
 use Rattle.protocol.specs.Step.{hasMark}
 
 -- the last six tests of rowFits
-unfoldable pub spareIsZero : List ℕ → Bool
-spareIsZero w =
-    eqb (getD w 10 0) 0 && (eqb (getD w 11 0) 0 && (eqb (getD w 12 0) 0 && (eqb (getD w 13 0) 0 && (eqb (getD w 14 0) 0 && eqb (getD w 15 0) 0))))
+unfoldable pub spareFits : List ℕ → Bool
+spareFits w =
+    ltb (getD w 10 0) 2 && (ltb (getD w 11 0) 2 && (eqb (getD w 12 0) 0 && (eqb (getD w 13 0) 0 && (eqb (getD w 14 0) 0 && eqb (getD w 15 0) 0))))
 
 -- marksInRange, of the number of the marks
 abbrev pub marksAllowed : ℕ → Bool
@@ -21,7 +21,7 @@ marksAllowed m = (hasMark m 2 ⇒ hasMark m 1) && ((hasMark m 4 ⇒ hasMark m 2)
 
 -- the last test of recordInRange
 unfoldable pub sendersInRange : HeadRecord → Bool
-sendersInRange r = allBelow 16 (λ p. cond (ltb p (r .n)) (senderInRange (keptOf r p)) (senderIsNone (keptOf r p)))
+sendersInRange r = allBelow 16 (λ p. cond (ltb p (r .n)) (senderInRange (r .n) (keptOf r p)) (senderIsNone (keptOf r p)))
 
 -- how many of the numbers that a row has for sender p are beyond the greatest, which is 0 for none from n on
 abbrev pub greatest : ℕ → ℕ → ℕ → ℕ
@@ -34,3 +34,4 @@ unfoldable pub beyond : List ℕ → ℕ → ℕ
 beyond w p =
     exceeds (greatest (getD w 7 0) p (2 ^ 28)) (getD w (16 + p) 0) + exceeds (greatest (getD w 7 0) p (2 ^ 28)) (getD w (32 + p) 0)
     + (exceeds (greatest (getD w 7 0) p 16) (getD w (48 + p) 0) + exceeds (greatest (getD w 7 0) p 16) (getD w (64 + p) 0))
+    + (exceeds (greatest (getD w 7 0) p (getD w 7 0)) (getD w (80 + p) 0) + exceeds (greatest (getD w 7 0) p (getD w 7 0)) (getD w (96 + p) 0))

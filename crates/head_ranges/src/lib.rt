@@ -1,15 +1,19 @@
 // Whether a row of numbers holds a record in its ranges.
+use head_open::has_mark;
 use protocol::Row;
 use protocol::TIME_LIMIT;
 use protocol::at;
+use protocol::mark;
 ghost use mathlib.Core.Path.{_≡_};
 ghost use mathlib.Core.Bool.{cond, _&&_, _||_};
 ghost use Prim.Native.Nat.{_+_, _%_, _≤_, _<_};
 ghost use lib.Dec.{ltb, eqb};
+ghost use Rattle.protocol.specs.Base.{_⇒_};
 ghost use Rattle.protocol.specs.Words.{isTime, headsFit};
 ghost use Rattle.protocol.specs.Record.{isNumber, markNumber, sentInRange};
+ghost use Rattle.protocol.specs.Step.{hasMark};
 ghost use Rattle.protocol.specs.Row.{numberIn, recordIn, rowFits, rowInRange};
-ghost use Rattle.head_ranges.specs.Parts.{spareIsZero, marksAllowed, sendersInRange, exceeds, beyond};
+ghost use Rattle.head_ranges.specs.Parts.{spareFits, marksAllowed, sendersInRange, exceeds, beyond};
 
 // 1 if b exceeds a, else 0.
 fn one_if_less(a: u32, b: u32) -> u32
@@ -25,16 +29,18 @@ fn marks_agree(m: u32, candidate: u32) -> bool
     m / 64 == one_if_less(0, candidate)
 }
 
-fn spare_is_zero(row: &Row) -> bool
-    ensures { λ b. ⌜ b ≡ spareIsZero (now (row .entry)) ⌝ }
+// The marks of early closes are 0 or 1, and four numbers behind them are 0.
+fn spare_fits(row: &Row) -> bool
+    ensures { λ b. ⌜ b ≡ spareFits (now (row .entry)) ⌝ }
 {
-    (row[10] | (row[11] | (row[12] | (row[13] | (row[14] | row[15]))))) == 0
+    row[at::VOTE_EARLY] < 2
+        && (row[at::ADJUST_EARLY] < 2 && (row[12] | (row[13] | (row[14] | row[15]))) == 0)
 }
 
 fn row_fits(row: &Row) -> bool
     ensures { λ b. ⌜ b ≡ rowFits (now (row .entry)) ⌝ }
 {
-    marks_agree(row[at::MARKS], row[at::CANDIDATE]) && spare_is_zero(row)
+    marks_agree(row[at::MARKS], row[at::CANDIDATE]) && spare_fits(row)
 }
 
 // 2f + 1 is at most n where f is less than half of n, rounded up.
@@ -58,7 +64,7 @@ fn times_fit(last: u32, adjustment: u32, adjuster: u32) -> bool
 }
 
 // A choice, one more than itself or 0 for none, and the number of frames sent for it.
-fn phase_fits(n: u32, choice: u32, sent: u32) -> bool
+fn sent_fits(n: u32, choice: u32, sent: u32) -> bool
     ensures { λ b. ⌜ b ≡ sentInRange n (numberIn choice) sent ⌝ }
 {
     if choice == 0 {
@@ -66,6 +72,14 @@ fn phase_fits(n: u32, choice: u32, sent: u32) -> bool
     } else {
         choice <= n && (1 <= sent && sent - 1 <= n - choice)
     }
+}
+
+// A phase; closed early only with its close mark, whose weight is given.
+fn phase_fits(n: u32, choice: u32, sent: u32, early: u32, marks: u32, weight: u32) -> bool
+    requires { ⌜ 0 < weight ⌝ }
+    ensures { λ b. ⌜ b ≡ (sentInRange n (numberIn choice) sent && (eqb early 1 ⇒ hasMark marks weight)) ⌝ }
+{
+    sent_fits(n, choice, sent) && (early != 1 || has_mark(marks, weight))
 }
 
 // Confirmed only if sent, turn only if confirmed, adjust turn or close only after vote close: each by two marks or three,
@@ -83,7 +97,7 @@ fn greatest(n: u32, p: u32, x: u32) -> u32
     if p < n { x } else { 0 }
 }
 
-// How many of the four numbers kept of sender p are greater than the greatest.
+// How many of the six numbers kept of sender p are greater than the greatest.
 fn numbers_beyond(row: &Row, p: u32) -> u32
     requires { ⌜ p < 16 ⌝ }
     ensures { λ k. ⌜ k ≡ beyond (now (row .entry)) p ⌝ }
@@ -91,10 +105,13 @@ fn numbers_beyond(row: &Row, p: u32) -> u32
     let i = p as usize;
     let reading = greatest(row[at::HEADS], p, TIME_LIMIT);
     let serial = greatest(row[at::HEADS], p, 16);
+    let name = greatest(row[at::HEADS], p, row[at::HEADS]);
     one_if_less(reading, row[at::START_READINGS + i])
         + one_if_less(reading, row[at::VOTE_READINGS + i])
         + (one_if_less(serial, row[at::VOTE_SERIALS + i])
             + one_if_less(serial, row[at::ADJUST_SERIALS + i]))
+        + (one_if_less(name, row[at::LATEST_VOTES + i])
+            + one_if_less(name, row[at::LATEST_ADJUSTS + i]))
 }
 
 // A sum without branches, which takes several senders at once.
@@ -118,7 +135,21 @@ pub fn row_in_range(row: &Row) -> bool
     row_fits(row)
         && (own_fits(n, row[at::FAULTY], row[at::OWN])
             && (times_fit(row[at::LAST], row[at::ADJUSTMENT], row[at::ADJUSTER])
-                && (phase_fits(n, row[at::CANDIDATE], row[at::VOTES_SENT])
-                    && (phase_fits(n, row[at::ADJUSTER], row[at::ADJUSTS_SENT])
+                && (phase_fits(
+                    n,
+                    row[at::CANDIDATE],
+                    row[at::VOTES_SENT],
+                    row[at::VOTE_EARLY],
+                    row[at::MARKS],
+                    mark::VOTE_CLOSE,
+                )
+                    && (phase_fits(
+                        n,
+                        row[at::ADJUSTER],
+                        row[at::ADJUSTS_SENT],
+                        row[at::ADJUST_EARLY],
+                        row[at::MARKS],
+                        mark::ADJUST_CLOSE,
+                    )
                         && (marks_fit(row[at::MARKS]) && senders_in_range(row))))))
 }

@@ -1,6 +1,6 @@
 -- Of a record in its ranges nothing is cut, since each of its head numbers, counts and serials has room in a byte.
 -- Main results: `first-read`, `all-read`, `nothing-cut`.
-use mathlib.Core.Path.{_≡_, refl, sym, _∙_, ap}
+use mathlib.Core.Path.{_≡_, sym, _∙_, ap}
 use mathlib.Core.Bool.{true}
 use mathlib.Core.List.{List, map}
 use Prim.Native.Nat.{ℕ, zero, suc, _%_, _≤_, _<_}
@@ -20,7 +20,6 @@ use Rattle.protocol.specs.Row.{senderIn, recordIn, rowFits, rowInRange}
 use Rattle.protocol.proofs.Tests.{cases, and-right}
 use Rattle.protocol.proofs.Tables.{length-table, table-at}
 use Rattle.protocol.proofs.Ranges.{in-range, SenderInRange, KeptInRange, SentInRange}
-use Rattle.data_values.specs.Numbers.{cutNumber}
 use Rattle.data_values.proofs.Numbers.{number-same}
 use Rattle.head_record.specs.Bytes.{cutSender, cutPhase, cut, Holds}
 
@@ -40,16 +39,23 @@ all-read w l long each =
 pub byte-same : (k : ℕ) → k < 256 → k % 256 ≡ k
 byte-same k lt = omega arith
 
-sender-same : (n p : ℕ) (k : Sender) → p < 16 → KeptInRange n p k → cutSender k ≡ k
-sender-same n p k below kept = cases (ltb p n) (λ t. inside (kept .below (ltb-true p n t))) (λ t. let none = kept .above (ltb-false p n t) below in ap cutSender none ∙ sym none)
+sender-same : (n p : ℕ) (k : Sender) → n ≤ 16 → p < 16 → KeptInRange n p k → cutSender k ≡ k
+sender-same n p k small below kept = cases (ltb p n) (λ t. inside (kept .below (ltb-true p n t))) (λ t. let none = kept .above (ltb-false p n t) below in ap cutSender none ∙ sym none)
   where
-    inside : SenderInRange k → cutSender k ≡ k
-    inside h = simp (number-same (k .voted) (omega (arith, h .serial votes)), number-same (k .adjusted) (omega (arith, h .serial adjusts)))
+    inside : SenderInRange n k → cutSender k ≡ k
+    inside h =
+        simp (
+          number-same (k .voted) (omega (arith, h .serial votes)),
+          number-same (k .adjusted) (omega (arith, h .serial adjusts)),
+          number-same (k .candidate) (omega (arith, small, h .latest votes)),
+          number-same (k .adjuster) (omega (arith, small, h .latest adjusts)),
+        )
 
-senders-same : (n : ℕ) (l : List Sender) → length l ≡ 16 → ((p : ℕ) → KeptInRange n p (getD l p noSender)) → map cutSender l ≡ l
-senders-same n l long kept =
+senders-same : (n : ℕ) (l : List Sender) → n ≤ 16 → length l ≡ 16 → ((p : ℕ) → KeptInRange n p (getD l p noSender)) → map cutSender l ≡ l
+senders-same n l small long kept =
     ext-getD noSender (map cutSender l) l (length-map l cutSender)
-    (λ p lt. List·getD-map cutSender l p noSender ∙ sender-same n p (getD l p noSender) (omega (arith, lt, long, length-map l cutSender)) (kept p))
+    (λ p lt. List·getD-map cutSender l p noSender
+    ∙ sender-same n p (getD l p noSender) small (omega (arith, lt, long, length-map l cutSender)) (kept p))
 
 choice-below : (n : ℕ) (x : OptNumber) (sent : ℕ) → n ≤ 16 → SentInRange n x sent → (numberOr0 x < 256) × (sent < 256)
 choice-below n NoNumber sent small h = (omega arith, omega arith)
@@ -71,7 +77,7 @@ uncut r e long =
       byte-same (r .own) (omega (arith, small, h .own)),
       phase-same (r .n) (r .vote) small (h .phase votes),
       phase-same (r .n) (r .adjust) small (h .phase adjusts),
-      senders-same (r .n) (r .senders) long (h .kept),
+      senders-same (r .n) (r .senders) small long (h .kept),
     )
 
 pub nothing-cut : (w : List ℕ) (r : HeadRecord) → r ≡ cut (recordIn w) → Holds w r

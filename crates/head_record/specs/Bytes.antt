@@ -3,6 +3,7 @@ use mathlib.Core.Path.{_≡_}
 use mathlib.Core.Bool.{true}
 use mathlib.Core.List.{List, map}
 use Prim.Native.Nat.{ℕ, _%_, _^_, _<_}
+use lib.Dec.{eqb}
 use Rattle.protocol.specs.declared.Sender.{Sender}
 use Rattle.protocol.specs.declared.Phase.{Phase}
 use Rattle.protocol.specs.declared.HeadRecord.{HeadRecord}
@@ -10,16 +11,16 @@ use Rattle.protocol.specs.declared.Sent.{Sent}
 use Rattle.protocol.specs.declared.Frame.{Frame}
 use Rattle.protocol.specs.declared.Frame.the-variants.{NoFrame, Start, Vote, Adjust}
 use Rattle.protocol.specs.Record.{readingOr0}
-use Rattle.data_values.specs.Numbers.{cutNumber}
 use Rattle.protocol.specs.Step.{hasMark}
 use Rattle.protocol.specs.Row.{numberIn, recordIn, rowInRange, sentOf}
+use Rattle.data_values.specs.Numbers.{cutNumber}
 
 -- the eight lowest bits of each
 abbrev pub cutSender : Sender → Sender
-cutSender k = record { start = k .start; vote = k .vote; voted = cutNumber (k .voted); adjusted = cutNumber (k .adjusted) }
+cutSender k = record { start = k .start; vote = k .vote; voted = cutNumber (k .voted); adjusted = cutNumber (k .adjusted); candidate = cutNumber (k .candidate); adjuster = cutNumber (k .adjuster) }
 
 abbrev pub cutPhase : Phase → Phase
-cutPhase p = record { turn = p .turn; closed = p .closed; choice = cutNumber (p .choice); sent = p .sent % 256 }
+cutPhase p = record { turn = p .turn; closed = p .closed; early = p .early; choice = cutNumber (p .choice); sent = p .sent % 256 }
 
 unfoldable pub cut : HeadRecord → HeadRecord
 cut r =
@@ -36,9 +37,10 @@ cut r =
       senders = map cutSender (r .senders);
     }
 
--- a phase of a row, by the weights of its marks
-abbrev pub phaseIn : ℕ → ℕ → ℕ → ℕ → ℕ → Phase
-phaseIn marks turn closed choice sent = record { turn = hasMark marks turn; closed = hasMark marks closed; choice = numberIn choice; sent = sent }
+-- a phase from its numbers, by the weights of its marks
+abbrev pub phaseWith : ℕ → ℕ → ℕ → ℕ → ℕ → ℕ → Phase
+phaseWith marks turn closed early choice sent =
+    record { turn = hasMark marks turn; closed = hasMark marks closed; early = eqb early 1; choice = numberIn choice; sent = sent }
 
 -- r is the record that the row holds, if the row is in its ranges
 abbrev pub Holds : List ℕ → HeadRecord → Type 0

@@ -5,13 +5,14 @@ use Prim.Native.Nat.{ℕ, _+_}
 use lib.ListN.{replicate, set}
 use Rattle.protocol.specs.declared.Sender.{Sender}
 use Rattle.protocol.specs.declared.HeadRecord.{HeadRecord}
-use Rattle.protocol.specs.Record.{noSender}
-use Rattle.protocol.specs.Row.{startNumber, voteNumber, votedNumber, adjustedNumber, rowOf}
+use Rattle.protocol.specs.Record.{noSender, votes, adjusts}
+use Rattle.protocol.specs.Row.{startNumber, voteNumber, votedNumber, adjustedNumber, latestNumber, rowOf}
 
--- the four numbers of sender p
+-- the six numbers of sender p
 abbrev pub withNumbers : List ℕ → ℕ → Sender → List ℕ
 withNumbers w p k =
-    set (set (set (set w (16 + p) (startNumber k)) (32 + p) (voteNumber k)) (48 + p) (votedNumber k)) (64 + p) (adjustedNumber k)
+    set (set (set (set (set (set w (16 + p) (startNumber k)) (32 + p) (voteNumber k)) (48 + p) (votedNumber k)) (64 + p) (adjustedNumber k))
+    (80 + p) (latestNumber votes k)) (96 + p) (latestNumber adjusts k)
 
 -- the record with nothing kept by sender
 abbrev pub bare : HeadRecord → HeadRecord

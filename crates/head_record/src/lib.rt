@@ -23,7 +23,7 @@ ghost use Rattle.protocol.specs.Base.{table};
 ghost use Rattle.protocol.specs.Record.{markNumber, marksNumber};
 ghost use Rattle.protocol.specs.Row.{numberPlus1, readingIn, readingPlus1, rowOf, senderIn};
 ghost use Rattle.head_record.specs.Filling.{bare, withNumbers, Completes};
-ghost use Rattle.head_record.specs.Bytes.{cutPhase, cutSender, phaseIn, Holds, StandsFor};
+ghost use Rattle.head_record.specs.Bytes.{cutPhase, cutSender, phaseWith, Holds, StandsFor};
 
 fn number_plus_1(k: OptNumber) -> u32
     ensures { λ w. ⌜ w ≡ numberPlus1 k ⌝ }
@@ -90,6 +90,8 @@ fn bare_row(r: HeadRecord) -> Row
     row[at::HEADS] = r.n as u32;
     row[at::FAULTY] = r.f as u32;
     row[at::OWN] = r.own as u32;
+    row[at::VOTE_EARLY] = mark_number(vote.early, 1);
+    row[at::ADJUST_EARLY] = mark_number(adjust.early, 1);
     row
 }
 
@@ -101,10 +103,14 @@ fn put_sender(row: &mut Row, p: usize, k: Sender)
     let vote = k.vote;
     let voted = k.voted;
     let adjusted = k.adjusted;
+    let candidate = k.candidate;
+    let adjuster = k.adjuster;
     row[at::START_READINGS + p] = reading_plus_1(start);
     row[at::VOTE_READINGS + p] = reading_plus_1(vote);
     row[at::VOTE_SERIALS + p] = number_plus_1(voted);
     row[at::ADJUST_SERIALS + p] = number_plus_1(adjusted);
+    row[at::LATEST_VOTES + p] = number_plus_1(candidate);
+    row[at::LATEST_ADJUSTS + p] = number_plus_1(adjuster);
 }
 
 // What is kept by sender, each number at its index.
@@ -154,11 +160,15 @@ fn sender_in(row: &Row, p: usize) -> Sender
     let vote = reading_in(row[at::VOTE_READINGS + p]);
     let voted = number_in(row[at::VOTE_SERIALS + p]);
     let adjusted = number_in(row[at::ADJUST_SERIALS + p]);
+    let candidate = number_in(row[at::LATEST_VOTES + p]);
+    let adjuster = number_in(row[at::LATEST_ADJUSTS + p]);
     Sender {
         start,
         vote,
         voted,
         adjusted,
+        candidate,
+        adjuster,
     }
 }
 
@@ -177,14 +187,15 @@ fn senders_in(row: &Row) -> [Sender; 16]
 }
 
 // A phase, by the weights of its marks.
-fn phase_in(marks: u32, turn: u32, closed: u32, choice: u32, sent: u32) -> Phase
+fn phase_in(marks: u32, turn: u32, closed: u32, early: u32, choice: u32, sent: u32) -> Phase
     requires { ⌜ (0 < turn) × (0 < closed) ⌝ }
-    ensures { λ p. ⌜ p ≡ cutPhase (phaseIn marks turn closed choice sent) ⌝ }
+    ensures { λ p. ⌜ p ≡ cutPhase (phaseWith marks turn closed early choice sent) ⌝ }
 {
     let choice = number_in(choice);
     Phase {
         turn: has_mark(marks, turn),
         closed: has_mark(marks, closed),
+        early: early == 1,
         choice,
         sent: byte(sent),
     }
@@ -199,6 +210,7 @@ pub fn record_in(row: &Row) -> HeadRecord
         marks,
         mark::VOTE_TURN,
         mark::VOTE_CLOSE,
+        row[at::VOTE_EARLY],
         row[at::CANDIDATE],
         row[at::VOTES_SENT],
     );
@@ -206,6 +218,7 @@ pub fn record_in(row: &Row) -> HeadRecord
         marks,
         mark::ADJUST_TURN,
         mark::ADJUST_CLOSE,
+        row[at::ADJUST_EARLY],
         row[at::ADJUSTER],
         row[at::ADJUSTS_SENT],
     );

@@ -39,6 +39,7 @@ module _ {r : HeadRecord} (h : InRange r) (long : length (r .senders) ≡ 16) wh
   pub fits : Fits r
   fits =
       record {
+        some = let b = h .heads .0 in omega arith;
         heads = h .heads .1;
         own = let b = h .own in let n = h .heads .1 in omega arith;
         last = h .last;
@@ -66,6 +67,7 @@ module _ {r : HeadRecord} (h : Fits r) where
   pub last-fits : (x : Reading) → x .0 < 2 ^ 28 → Fits (withLast r x)
   last-fits x b =
       record {
+        some = h .some;
         heads = h .heads;
         own = h .own;
         last = b;
@@ -76,15 +78,16 @@ module _ {r : HeadRecord} (h : Fits r) where
 
   pub vote-phase-fits : (p : Phase) → p .sent < 2 ^ 16 → Fits (withVote r p)
   vote-phase-fits p b =
-      record { heads = h .heads; own = h .own; last = h .last; sent = for-both _ b (h .sent adjusts); senders = h .senders; readings = h .readings }
+      record { some = h .some; heads = h .heads; own = h .own; last = h .last; sent = for-both _ b (h .sent adjusts); senders = h .senders; readings = h .readings }
 
   pub adjust-phase-fits : (p : Phase) (x : Reading) → p .sent < 2 ^ 16 → Fits (withAdjust r p x)
   adjust-phase-fits p x b =
-      record { heads = h .heads; own = h .own; last = h .last; sent = for-both _ (h .sent votes) b; senders = h .senders; readings = h .readings }
+      record { some = h .some; heads = h .heads; own = h .own; last = h .last; sent = for-both _ (h .sent votes) b; senders = h .senders; readings = h .readings }
 
   pub sender-fits : (p : ℕ) (k : Sender) → readingOr0 (k .vote) < 2 ^ 28 → Fits (withSender r p k)
   sender-fits p k b =
       record {
+        some = h .some;
         heads = h .heads;
         own = h .own;
         last = h .last;

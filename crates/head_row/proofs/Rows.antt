@@ -1,26 +1,31 @@
 -- A record's row, number by number: what is read there, and which record's row it is after a write.
--- A row is the head's own sixteen numbers and four fields of sixteen, one number a sender. One law reads a sender's number and
+-- A row is the head's own sixteen numbers and six fields of sixteen, one number a sender. One law reads a sender's number and
 -- one writes it, whichever the field; each field is an instance.
--- Main results: `row-length`; `start-read`, `vote-read`, `voted-read`, `adjusted-read`; `start-written`, `vote-written`,
--- `voted-written`, `adjusted-written`, `taken-vote-written`, `sender-written`; `own-number`, `last-written`, `marks-written`,
--- `vote-phase-written`, `adjust-phase-written`.
+-- Main results: `row-length`; `start-read`, `vote-read`, `voted-read`, `adjusted-read`, `latest-read`; `start-written`,
+-- `own-vote-written`, `own-adjust-written`, `taken-vote-written`, `taken-adjust-written`, `sender-written`; `own-number`,
+-- `last-written`, `marks-written`, `vote-phase-written`, `adjust-phase-written`, `early-read`, `early-written`; `other-phase`,
+-- `early-place`.
 use mathlib.Core.Path.{_≡_, refl, sym, _∙_, ap, ap₂}
+use mathlib.Core.Bool.{true}
 use mathlib.Core.List.{List, [], _∷_, _++_, map}
+use mathlib.Core.Logic.{_≢_}
 use Prim.Native.Nat.{ℕ, zero, suc, _+_, _*_, _<_}
 use native.Mathlib.Nat.{not-suc-le-zero, suc-add}
 use native.Mathlib.Omega.{arith}
+use lib.Dec.{eqb, lit<}
 use lib.ListN.{length, getD, set, drop, length-append, length-map, length-set, List·getD-append, List·getD-map}
 use lib.Seq.{getD-append-add, set-append-left, getD-set-same, map-set-same, set-set}
 use Rattle.protocol.specs.declared.Reading.{Reading}
 use Rattle.protocol.specs.declared.OptReading.{OptReading}
 use Rattle.protocol.specs.declared.Sender.{Sender}
-use Rattle.protocol.specs.declared.Phase.{Phase}
 use Rattle.protocol.specs.declared.HeadRecord.{HeadRecord}
-use Rattle.protocol.specs.Record.{noSender, keptOf, startOf, voteOf, marksNumber}
-use Rattle.protocol.specs.Step.{withStart, withVoteReading, withVoted, withAdjusted, choose, withLast, withVote, withAdjust, withSender}
-use Rattle.protocol.specs.Row.{numberPlus1, readingPlus1, ownNumbers, startNumber, voteNumber, votedNumber, adjustedNumber, rowLength, rowOf}
+use Rattle.protocol.specs.Record.{noSender, keptOf, startOf, voteOf, Kind, votes, adjusts, phaseOf, latestOf, marksNumber}
+use Rattle.protocol.specs.Step.{withStart, withVoteReading, withVoted, withAdjusted, withCandidate, withAdjuster, choose, earlyIf, withLast, withVote, withAdjust, withPhase, withSender}
+use Rattle.protocol.specs.Row.{numberPlus1, readingPlus1, ownNumbers, startNumber, voteNumber, votedNumber, adjustedNumber, latestNumber, rowLength, rowOf, phaseKind}
+use Rattle.protocol.proofs.Tests.{is-1}
 use Rattle.protocol.proofs.Effects.{withSenders}
 use Rattle.protocol.proofs.Ranges.{Every}
+use Rattle.head_row.specs.Promises.{latestAt, earlyAt}
 
 -- SIXTEEN NUMBERS AFTER SIXTEEN NUMBERS
 
@@ -103,14 +108,15 @@ module _ (l : List Sender) (p : ℕ) (k : Sender) where
 -- A ROW
 
 abbrev fields : List (Sender → ℕ)
-fields = startNumber ∷ voteNumber ∷ votedNumber ∷ adjustedNumber ∷ []
+fields = startNumber ∷ voteNumber ∷ votedNumber ∷ adjustedNumber ∷ latestNumber votes ∷ latestNumber adjusts ∷ []
 
 module _ (r : HeadRecord) (long : length (r .senders) ≡ 16) where
   field-length : (f : Sender → ℕ) → length (map f (r .senders)) ≡ 16
   field-length f = length-map (r .senders) f ∙ long
 
   all-sixteen : Sixteens (fieldsBy fields (r .senders))
-  all-sixteen = (field-length startNumber, (field-length voteNumber, (field-length votedNumber, (field-length adjustedNumber, tt))))
+  all-sixteen =
+      (field-length startNumber, (field-length voteNumber, (field-length votedNumber, (field-length adjustedNumber, (field-length (latestNumber votes), (field-length (latestNumber adjusts), tt))))))
 
   pub row-length : length (rowOf r) ≡ rowLength
   unfolding rowOf
@@ -118,7 +124,7 @@ module _ (r : HeadRecord) (long : length (r .senders) ≡ 16) where
       simp (length-append, length-map, long)
 
   module _ (p : ℕ) (below : p < 16) where
-    number-read : (i : ℕ) → i < 4 → getD (rowOf r) (16 + 16 * i + p) 0 ≡ getD (getD (fieldsBy fields (r .senders)) i []) p 0
+    number-read : (i : ℕ) → i < 6 → getD (rowOf r) (16 + 16 * i + p) 0 ≡ getD (getD (fieldsBy fields (r .senders)) i []) p 0
     unfolding rowOf
     number-read i lt = part-read p below (ownNumbers r) (fieldsBy fields (r .senders)) i refl all-sixteen lt
 
@@ -134,8 +140,12 @@ module _ (r : HeadRecord) (long : length (r .senders) ≡ 16) where
     pub adjusted-read : getD (rowOf r) (64 + p) 0 ≡ numberPlus1 (keptOf r p .adjusted)
     adjusted-read = number-read 3 (omega arith) ∙ List·getD-map adjustedNumber (r .senders) p noSender
 
+    pub latest-read : (k : Kind) → getD (rowOf r) (latestAt k + p) 0 ≡ numberPlus1 (latestOf k (keptOf r p))
+    latest-read votes = number-read 4 (omega arith) ∙ List·getD-map (latestNumber votes) (r .senders) p noSender
+    latest-read adjusts = number-read 5 (omega arith) ∙ List·getD-map (latestNumber adjusts) (r .senders) p noSender
+
     -- sender p's number of field i becomes that of k, which keeps the others
-    number-written : (i w : ℕ) (k : Sender) → i < 4 → numbersBy fields k ≡ set (numbersBy fields (keptOf r p)) i w
+    number-written : (i w : ℕ) (k : Sender) → i < 6 → numbersBy fields k ≡ set (numbersBy fields (keptOf r p)) i w
         → set (rowOf r) (16 + 16 * i + p) w ≡ rowOf (withSender r p k)
     unfolding rowOf marksNumber
     number-written i w k lt e =
@@ -145,44 +155,66 @@ module _ (r : HeadRecord) (long : length (r .senders) ≡ 16) where
     pub start-written : (x : OptReading) → set (rowOf r) (16 + p) (readingPlus1 x) ≡ rowOf (withSender r p (withStart (keptOf r p) x))
     start-written x = number-written 0 (readingPlus1 x) (withStart (keptOf r p) x) (omega arith) refl
 
-    pub vote-written : (x : OptReading) → set (rowOf r) (32 + p) (readingPlus1 x) ≡ rowOf (withSender r p (withVoteReading (keptOf r p) x))
+    vote-written : (x : OptReading) → set (rowOf r) (32 + p) (readingPlus1 x) ≡ rowOf (withSender r p (withVoteReading (keptOf r p) x))
     vote-written x = number-written 1 (readingPlus1 x) (withVoteReading (keptOf r p) x) (omega arith) refl
 
-    pub voted-written : (j : ℕ) → set (rowOf r) (48 + p) (j + 1) ≡ rowOf (withSender r p (withVoted (keptOf r p) j))
-    voted-written j = number-written 2 (j + 1) (withVoted (keptOf r p) j) (omega arith) refl
-
-    pub adjusted-written : (j : ℕ) → set (rowOf r) (64 + p) (j + 1) ≡ rowOf (withSender r p (withAdjusted (keptOf r p) j))
+    adjusted-written : (j : ℕ) → set (rowOf r) (64 + p) (j + 1) ≡ rowOf (withSender r p (withAdjusted (keptOf r p) j))
     adjusted-written j = number-written 3 (j + 1) (withAdjusted (keptOf r p) j) (omega arith) refl
+
+    -- the head's own adjust
+    pub own-adjust-written : (a : ℕ) → set (rowOf r) (96 + p) (a + 1) ≡ rowOf (withSender r p (withAdjuster (keptOf r p) a))
+    own-adjust-written a = number-written 5 (a + 1) (withAdjuster (keptOf r p) a) (omega arith) refl
 
 -- numbers of sender p written one after another
 module _ (r : HeadRecord) (long : length (r .senders) ≡ 16) (p : ℕ) (below : p < 16) where
-  next-written : (i w : ℕ) (j k : Sender) → i < 4 → numbersBy fields k ≡ set (numbersBy fields j) i w
+  next-written : (i w : ℕ) (j k : Sender) → i < 6 → numbersBy fields k ≡ set (numbersBy fields j) i w
       → set (rowOf (withSender r p j)) (16 + 16 * i + p) w ≡ rowOf (withSender r p k)
   next-written i w j k lt e =
       number-written (withSender r p j) (length-set (r .senders) p j ∙ long) p below i w k lt
       (e ∙ ap (λ (s : Sender). set (numbersBy fields s) i w) (sym (getD-set-same (r .senders) p j noSender (rw long below))))
       ∙ ap (λ (l : List Sender). rowOf (withSenders r l)) (set-set (r .senders) p j k)
 
-  -- what is kept of a delivered vote: its reading and its serial
-  pub taken-vote-written : (x : OptReading) (j : ℕ)
-      → set (set (rowOf r) (32 + p) (readingPlus1 x)) (48 + p) (j + 1) ≡ rowOf (withSender r p (withVoted (withVoteReading (keptOf r p) x) j))
-  taken-vote-written x j =
+  -- the head's own vote: its reading, and whom it names
+  pub own-vote-written : (x : OptReading) (c : ℕ)
+      → set (set (rowOf r) (32 + p) (readingPlus1 x)) (80 + p) (c + 1) ≡ rowOf (withSender r p (withCandidate (withVoteReading (keptOf r p) x) c))
+  own-vote-written x c =
       let k = withVoteReading (keptOf r p) x in
-      ap (λ (l : List ℕ). set l (48 + p) (j + 1)) (vote-written r long p below x) ∙ next-written 2 (j + 1) k (withVoted k j) (omega arith) refl
+      ap (λ (l : List ℕ). set l (80 + p) (c + 1)) (vote-written r long p below x) ∙ next-written 4 (c + 1) k (withCandidate k c) (omega arith) refl
+
+  -- what is kept of a delivered vote: its reading, its serial, and whom it names
+  pub taken-vote-written : (x : OptReading) (j c : ℕ)
+      → set (set (set (rowOf r) (32 + p) (readingPlus1 x)) (48 + p) (j + 1)) (80 + p) (c + 1) ≡ rowOf (withSender r p (withCandidate (withVoted (withVoteReading (keptOf r p) x) j) c))
+  taken-vote-written x j c =
+      let k = withVoteReading (keptOf r p) x in
+      ap (λ (l : List ℕ). set (set l (48 + p) (j + 1)) (80 + p) (c + 1)) (vote-written r long p below x)
+      ∙ ap (λ (l : List ℕ). set l (80 + p) (c + 1)) (next-written 2 (j + 1) k (withVoted k j) (omega arith) refl)
+      ∙ next-written 4 (c + 1) (withVoted k j) (withCandidate (withVoted k j) c) (omega arith) refl
+
+  -- and of a delivered adjust
+  pub taken-adjust-written : (j a : ℕ) → set (set (rowOf r) (64 + p) (j + 1)) (96 + p) (a + 1) ≡ rowOf (withSender r p (withAdjuster (withAdjusted (keptOf r p) j) a))
+  taken-adjust-written j a =
+      let k = withAdjusted (keptOf r p) j in
+      ap (λ (l : List ℕ). set l (96 + p) (a + 1)) (adjusted-written r long p below j) ∙ next-written 5 (a + 1) k (withAdjuster k a) (omega arith) refl
 
   -- all that is kept
   pub sender-written : (k : Sender)
-      → set (set (set (set (rowOf r) (16 + p) (startNumber k)) (32 + p) (voteNumber k)) (48 + p) (votedNumber k)) (64 + p) (adjustedNumber k)
-      ≡ rowOf (withSender r p k)
+      → set (set (set (set (set (set (rowOf r) (16 + p) (startNumber k)) (32 + p) (voteNumber k)) (48 + p) (votedNumber k)) (64 + p) (adjustedNumber k))
+      (80 + p) (latestNumber votes k)) (96 + p) (latestNumber adjusts k) ≡ rowOf (withSender r p k)
   sender-written k =
-      let k1 = withStart (keptOf r p) (k .start) in
+      let kept = keptOf r p in
+      let k1 = withStart kept (k .start) in
       let k2 = withVoteReading k1 (k .vote) in
-      let k3 : Sender = record { start = k .start; vote = k .vote; voted = k .voted; adjusted = keptOf r p .adjusted } in
-      ap (λ (w : List ℕ). set (set (set w (32 + p) (voteNumber k)) (48 + p) (votedNumber k)) (64 + p) (adjustedNumber k))
+      let k3 : Sender = record { start = k .start; vote = k .vote; voted = k .voted; adjusted = kept .adjusted; candidate = kept .candidate; adjuster = kept .adjuster } in
+      let k4 : Sender = record { start = k .start; vote = k .vote; voted = k .voted; adjusted = k .adjusted; candidate = kept .candidate; adjuster = kept .adjuster } in
+      let k5 : Sender = record { start = k .start; vote = k .vote; voted = k .voted; adjusted = k .adjusted; candidate = k .candidate; adjuster = kept .adjuster } in
+      ap (λ (w : List ℕ). set (set (set (set (set w (32 + p) (voteNumber k)) (48 + p) (votedNumber k)) (64 + p) (adjustedNumber k)) (80 + p) (latestNumber votes k)) (96 + p) (latestNumber adjusts k))
       (start-written r long p below (k .start))
-      ∙ ap (λ (w : List ℕ). set (set w (48 + p) (votedNumber k)) (64 + p) (adjustedNumber k)) (next-written 1 (voteNumber k) k1 k2 (omega arith) refl)
-      ∙ ap (λ (w : List ℕ). set w (64 + p) (adjustedNumber k)) (next-written 2 (votedNumber k) k2 k3 (omega arith) refl)
-      ∙ next-written 3 (adjustedNumber k) k3 k (omega arith) refl
+      ∙ ap (λ (w : List ℕ). set (set (set (set w (48 + p) (votedNumber k)) (64 + p) (adjustedNumber k)) (80 + p) (latestNumber votes k)) (96 + p) (latestNumber adjusts k))
+      (next-written 1 (voteNumber k) k1 k2 (omega arith) refl)
+      ∙ ap (λ (w : List ℕ). set (set (set w (64 + p) (adjustedNumber k)) (80 + p) (latestNumber votes k)) (96 + p) (latestNumber adjusts k)) (next-written 2 (votedNumber k) k2 k3 (omega arith) refl)
+      ∙ ap (λ (w : List ℕ). set (set w (80 + p) (latestNumber votes k)) (96 + p) (latestNumber adjusts k)) (next-written 3 (adjustedNumber k) k3 k4 (omega arith) refl)
+      ∙ ap (λ (w : List ℕ). set w (96 + p) (latestNumber adjusts k)) (next-written 4 (latestNumber votes k) k4 k5 (omega arith) refl)
+      ∙ next-written 5 (latestNumber adjusts k) k5 k (omega arith) refl
 
 -- THE HEAD'S OWN NUMBERS
 
@@ -202,13 +234,35 @@ module _ (r : HeadRecord) where
   unfolding rowOf
   marks-written s own same = sym (ap₂ (λ x l. joined x (fieldsBy fields l)) own same)
 
-  pub vote-phase-written : (p : Phase)
-      → set (set (set (rowOf r) 1 (marksNumber (withVote r p))) 2 (numberPlus1 (p .choice))) 3 (p .sent) ≡ rowOf (withVote r p)
+  pub vote-phase-written : (c : ℕ)
+      → set (set (set (rowOf r) 1 (marksNumber (withVote r (choose c (r .vote))))) 2 (c + 1)) 3 (r .vote .sent + 1) ≡ rowOf (withVote r (choose c (r .vote)))
   unfolding rowOf
-  vote-phase-written p = refl
+  vote-phase-written c = refl
 
   -- the marks say nothing of the adjuster
   pub adjust-phase-written : (a : ℕ) (x : Reading)
       → set (set (set (rowOf r) 4 (a + 1)) 5 (r .adjust .sent + 1)) 6 (x .0) ≡ rowOf (withAdjust r (choose a (r .adjust)) x)
   unfolding rowOf marksNumber
   adjust-phase-written a x = refl
+
+  -- 1 for a phase that was closed early, 0 for another
+  pub early-read : (k : Kind) {row : List ℕ} → row ≡ rowOf r → eqb (getD row (earlyAt k) 0) 1 ≡ phaseOf k r .early
+  early-read votes is = ap (λ (w : ℕ). eqb w 1) (own-number is 10 (lit< tt)) ∙ is-1 (r .vote .early)
+  early-read adjusts is = ap (λ (w : ℕ). eqb w 1) (own-number is 11 (lit< tt)) ∙ is-1 (r .adjust .early)
+
+  -- a phase closed early: both its marks
+  pub early-written : (k : Kind) → set (set (rowOf r) 1 (marksNumber (withPhase k r (earlyIf true (phaseOf k r))))) (earlyAt k) 1 ≡ rowOf (withPhase k r (earlyIf true (phaseOf k r)))
+  unfolding rowOf
+  early-written votes = refl
+  early-written adjusts = refl
+
+-- A PHASE BY ITS NUMBER
+
+pub other-phase : (phase : ℕ) → phase ≢ 0 → phaseKind phase ≡ adjusts
+other-phase zero n = absurd (n refl)
+other-phase (suc phase) n = refl
+
+pub early-place : (phase : ℕ) → phase < 2 → 10 + phase ≡ earlyAt (phaseKind phase)
+early-place zero below = refl
+early-place (suc zero) below = refl
+early-place (suc (suc phase)) below = absurd (omega arith)

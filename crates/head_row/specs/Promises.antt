@@ -6,11 +6,12 @@ use lib.ListN.{length}
 use Rattle.protocol.specs.declared.HeadRecord.{HeadRecord}
 use Rattle.protocol.specs.declared.Stepped.{Stepped}
 use Rattle.protocol.specs.declared.Sent.{Sent}
-use Rattle.protocol.specs.Record.{Kind, phaseOf, readingOr0, voteOf}
+use Rattle.protocol.specs.Record.{Kind, votes, adjusts, phaseOf, readingOr0, voteOf}
 use Rattle.protocol.specs.Row.{rowOf, sentOf}
 
 -- as much of a record's ranges as a step needs; an action's parts keep it
 pub record Fits (r : HeadRecord) : Type 0 where
+  pub some : 0 < r .n
   pub heads : r .n ≤ 16
   pub own : r .own < 16
   pub last : r .last .0 < 2 ^ 28
@@ -25,3 +26,22 @@ Reads f row x = (r : HeadRecord) → row ≡ rowOf r → Fits r → x ≡ f r
 -- the row becomes that of the record after the act, and x is the frame that the act sends
 abbrev pub Acts : (HeadRecord → Stepped) → List ℕ → List ℕ → Sent → Type 0
 Acts act before after x = (r : HeadRecord) → before ≡ rowOf r → Fits r → (after ≡ rowOf (act r .after)) × (x ≡ sentOf (act r .frame))
+
+-- as much of a record's ranges as the test at a step's end needs; what comes before the test keeps it
+pub record HasHeads (r : HeadRecord) : Type 0 where
+  pub some : 0 < r .n
+  pub heads : r .n ≤ 16
+  pub senders : length (r .senders) ≡ 16
+
+-- the row becomes that of the record which f makes
+abbrev pub Becomes : (HeadRecord → HeadRecord) → List ℕ → List ℕ → Type 0
+Becomes f before after = (r : HeadRecord) → before ≡ rowOf r → HasHeads r → after ≡ rowOf (f r)
+
+-- where a row has, for each phase, the senders' latest frames and the mark of an early close
+abbrev pub latestAt : Kind → ℕ
+latestAt votes = 80
+latestAt adjusts = 96
+
+abbrev pub earlyAt : Kind → ℕ
+earlyAt votes = 10
+earlyAt adjusts = 11

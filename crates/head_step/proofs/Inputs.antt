@@ -1,5 +1,5 @@
 -- The action that an input's numbers ask for, taken with its reading as the last reading.
--- Main results: `action-is`, `only-look`, `effect-acts`, `look-acts`; `carried-written`, `carried-below`.
+-- Main results: `action-is`, `only-look`, `input-acts`, `plain-acts`, `look-acts`; `carried-written`, `carried-below`.
 use mathlib.Core.Path.{_≡_, refl, sym, _∙_, ap, subst}
 use mathlib.Core.Bool.{cond}
 use mathlib.Core.List.{List}
@@ -18,7 +18,7 @@ use Rattle.protocol.specs.declared.Input.{Input}
 use Rattle.protocol.specs.declared.Action.{Action}
 use Rattle.protocol.specs.declared.Action.the-variants.{Look}
 use Rattle.protocol.specs.Record.{readingOr0, reading}
-use Rattle.protocol.specs.Step.{withLast, effect, actionsOf, actionOf}
+use Rattle.protocol.specs.Step.{withLast, effect, isTested, act, takenAs, actionsOf, actionOf}
 use Rattle.protocol.specs.Row.{readingPlus1, sentOf}
 use Rattle.protocol.proofs.Tests.{cases, cond-elim}
 use Rattle.head_row.specs.Promises.{Acts}
@@ -26,6 +26,7 @@ use Rattle.head_row.proofs.Rows.{last-written}
 use Rattle.head_row.proofs.Fitting.{last-fits}
 use Rattle.head_step.specs.Sized.{InputSized}
 use Rattle.head_step.proofs.Sends.{Gives}
+use Rattle.head_step.proofs.Closing.{untested-gives}
 use Rattle.head_step.proofs.Effects.{reading-written}
 
 -- A VOTE'S READING, as the input has it and as the row has it
@@ -58,15 +59,24 @@ module _ (i : Input) where
       (λ n0. List·getD-eq-default (actionsOf i) Look
       (five-further 5 (i .action) (five-further 0 (i .action) (omega arith) (eqb-false _ _ n0) n1 n2 n3 n4) n5 n6 n7 n8 n9))
 
-  pub effect-acts : (sized : InputSized i) (row row' : List ℕ) (x : Sent) (a : Action) → actionOf i ≡ a
-      → Acts (λ (r : HeadRecord). effect r a) (set row 0 (i .reading)) row' x
-      → Acts (λ (r : HeadRecord). effect (withLast r (reading (i .reading))) (actionOf i)) row row' x
-  effect-acts sized row row' x a e acts r is fit =
-      subst (λ (b : Action). Gives (effect (withLast r (reading (i .reading))) b) row' x) (sym e)
+  -- what the action of these numbers does once its reading is the last one, which changes nothing in whether it is spent
+  pub input-acts : (sized : InputSized i) (row row' : List ℕ) (x : Sent) (a : Action) → actionOf i ≡ a
+      → Acts (λ (r : HeadRecord). act r (takenAs r a)) (set row 0 (i .reading)) row' x
+      → Acts (λ (r : HeadRecord). act (withLast r (reading (i .reading))) (takenAs r (actionOf i))) row row' x
+  unfolding takenAs
+  input-acts sized row row' x a e acts r is fit =
+      subst (λ (b : Action). Gives (act (withLast r (reading (i .reading))) (takenAs r b)) row' x) (sym e)
       (acts (withLast r (reading (i .reading))) (ap (λ (l : List ℕ). set l 0 (i .reading)) is ∙ last-written r (reading (i .reading)))
       (last-fits fit (reading (i .reading)) (sized .reading)))
 
+  -- where the action is never spent
+  pub plain-acts : (sized : InputSized i) (row row' : List ℕ) (x : Sent) (a : Action) → actionOf i ≡ a → ((r : HeadRecord) → takenAs r a ≡ a)
+      → Acts (λ (r : HeadRecord). act r a) (set row 0 (i .reading)) row' x
+      → Acts (λ (r : HeadRecord). act (withLast r (reading (i .reading))) (takenAs r (actionOf i))) row row' x
+  plain-acts sized row row' x a e plain acts =
+      input-acts sized row row' x a e (λ r is fit. subst (λ (b : Action). Gives (act r b) row' x) (sym (plain r)) (acts r is fit))
+
   pub look-acts : (sized : InputSized i) (row : List ℕ) (x : Sent) → actionOf i ≡ Look → x ≡ sentOf NoFrame
-      → Acts (λ (r : HeadRecord). effect (withLast r (reading (i .reading))) (actionOf i)) row (set row 0 (i .reading)) x
-  unfolding effect
-  look-acts sized row x e none = effect-acts sized row _ x Look e (λ r is fit. (is, none))
+      → Acts (λ (r : HeadRecord). act (withLast r (reading (i .reading))) (takenAs r (actionOf i))) row (set row 0 (i .reading)) x
+  unfolding effect isTested takenAs
+  look-acts sized row x e none = plain-acts sized row _ x Look e (λ r. refl) (λ r is fit. untested-gives r Look (is, none) refl)

@@ -1,6 +1,6 @@
 -- What a head sends of itself, and what that leaves in its row, by the numbers that the code computes.
 -- Main results: `vote-gives`, `adjust-gives`; `may-lead-with`, `may-not-lead`, `lead-votes`, `lead-waits`; `may-adjust-with`,
--- `may-not-adjust`, `may-not-adjust-again`, `propose-adjusts`, `propose-waits`.
+-- `may-not-adjust`, `may-not-adjust-again`, `propose-adjusts`, `propose-waits`; `is-none`.
 use mathlib.Core.Path.{_≡_, refl, sym, _∙_, ap, ap₂, subst}
 use mathlib.Core.Bool.{Bool, true, false, not, _&&_}
 use mathlib.Core.List.{List}
@@ -17,13 +17,13 @@ use Rattle.protocol.specs.declared.HeadRecord.{HeadRecord}
 use Rattle.protocol.specs.declared.Stepped.{Stepped}
 use Rattle.protocol.specs.declared.Sent.{Sent}
 use Rattle.protocol.specs.declared.Frame.the-variants.{NoFrame}
-use Rattle.protocol.specs.Record.{votes, adjusts, isNumber, reading, startOf, marksNumber}
+use Rattle.protocol.specs.Record.{votes, adjusts, isNumber, reading, keptOf, startOf, marksNumber}
 use Rattle.protocol.specs.Median.{median}
-use Rattle.protocol.specs.Step.{choose, withVote, vote, adjust, startsHeld, mayLead, lead, voteReadings, mayAdjust, propose, hasMark}
+use Rattle.protocol.specs.Step.{choose, withAdjuster, withVote, withSender, vote, adjust, startsHeld, mayLead, lead, voteReadings, mayAdjust, propose, hasMark}
 use Rattle.protocol.specs.Row.{numberPlus1, readingPlus1, rowOf, sentOf}
 use Rattle.protocol.proofs.Tests.{and-false}
 use Rattle.head_row.specs.Promises.{Fits, Reads, Acts}
-use Rattle.head_row.proofs.Rows.{own-number, start-read, vote-written, vote-phase-written, adjust-phase-written}
+use Rattle.head_row.proofs.Rows.{own-number, start-read, own-vote-written, own-adjust-written, vote-phase-written, adjust-phase-written}
 use Rattle.head_open.proofs.Marks.{withMark, has-vote-turn, has-vote-closed, has-candidate, with-candidate}
 
 -- the row and the frame are those of an act's result
@@ -32,8 +32,9 @@ Gives t row x = (row ≡ rowOf (t .after)) × (x ≡ sentOf (t .frame))
 
 -- A VOTE
 
-module _ (c : ℕ) (row : List ℕ) (m c' k' i j : ℕ) (m-is : m ≡ withMark (getD row 1 0) 64) (c-is : c' ≡ (c + 1) % 2 ^ 32)
-    (k-is : k' ≡ (getD row 3 0 + 1) % 2 ^ 32) (i-is : i ≡ c % 16) (j-is : j ≡ getD row 9 0 % 16) (small : c < 16)
+module _ (c : ℕ) (row : List ℕ) (m c' k' c″ i j j' : ℕ) (m-is : m ≡ withMark (getD row 1 0) 64) (c-is : c' ≡ (c + 1) % 2 ^ 32)
+    (k-is : k' ≡ (getD row 3 0 + 1) % 2 ^ 32) (i-is : i ≡ c % 16) (j-is : j ≡ getD row 9 0 % 16) (name-is : c″ ≡ (c + 1) % 2 ^ 32)
+    (j'-is : j' ≡ getD row 9 0 % 16) (small : c < 16)
     (r : HeadRecord) (is : row ≡ rowOf r) (fit : Fits r) where
   abbrev chosen : HeadRecord
   chosen = withVote r (choose c (r .vote))
@@ -44,33 +45,41 @@ module _ (c : ℕ) (row : List ℕ) (m c' k' i j : ℕ) (m-is : m ≡ withMark (
   count : k' ≡ r .vote .sent + 1
   count = let e = own-number r is 3 (lit< tt) in let b = fit .sent votes in omega arith
 
-  own : j ≡ r .own
-  own = let e = own-number r is 9 (lit< tt) in let b = fit .own in omega arith
+  own : (i : ℕ) → i ≡ getD row 9 0 % 16 → i ≡ r .own
+  own i i-is = let e = own-number r is 9 (lit< tt) in let b = fit .own in omega arith
 
   carried : getD row (16 + i) 0 ≡ readingPlus1 (startOf r c)
   carried = let e : i ≡ c = omega arith in rw (is, e) (start-read r (fit .senders) c small)
 
-  pub vote-gives : Gives (vote c r) (set (set (set (set row 1 m) 2 c') 3 k') (32 + j) (getD row (16 + i) 0))
+  pub vote-gives : Gives (vote c r) (set (set (set (set (set row 1 m) 2 c') 3 k') (32 + j) (getD row (16 + i) 0)) (80 + j') c″)
       (record { kind = 5; serial = getD row 3 0; choice = c; carried = getD row (16 + i) 0 })
   unfolding vote rowOf
   vote-gives =
       let name : c' ≡ c + 1 = omega arith in
-      rw (carried, mark, name, count, own, is) (
-        ap (λ (l : List ℕ). set l (32 + r .own) (readingPlus1 (startOf r c))) (vote-phase-written r (choose c (r .vote)))
-            ∙ vote-written chosen (fit .senders) (r .own) (fit .own) (startOf r c),
+      let latest : c″ ≡ c + 1 = omega arith in
+      rw (carried, mark, name, latest, count, own j j-is, own j' j'-is, is) (
+        ap (λ (l : List ℕ). set (set l (32 + r .own) (readingPlus1 (startOf r c))) (80 + r .own) (c + 1)) (vote-phase-written r c)
+            ∙ own-vote-written chosen (fit .senders) (r .own) (fit .own) (startOf r c) c,
         refl,
       )
 
 -- AN ADJUST
 
-pub adjust-gives : (a x : ℕ) (row : List ℕ) (a' k' : ℕ) → a' ≡ (a + 1) % 2 ^ 32 → k' ≡ (getD row 5 0 + 1) % 2 ^ 32 → a < 16
+pub adjust-gives : (a x : ℕ) (row : List ℕ) (j a″ a' k' : ℕ) → j ≡ getD row 9 0 % 16 → a″ ≡ (a + 1) % 2 ^ 32 → a' ≡ (a + 1) % 2 ^ 32 → k' ≡ (getD row 5 0 + 1) % 2 ^ 32 → a < 16
     → (r : HeadRecord) → row ≡ rowOf r → Fits r
-    → Gives (adjust a (reading x) r) (set (set (set row 4 a') 5 k') 6 x) (record { kind = 8; serial = getD row 5 0; choice = a; carried = x })
+    → Gives (adjust a (reading x) r) (set (set (set (set row (96 + j) a″) 4 a') 5 k') 6 x) (record { kind = 8; serial = getD row 5 0; choice = a; carried = x })
 unfolding adjust rowOf
-adjust-gives a x row a' k' a-is k-is small r is fit =
+adjust-gives a x row j a″ a' k' j-is latest-is a-is k-is small r is fit =
+    let own : j ≡ r .own = let e = own-number r is 9 (lit< tt) in let b = fit .own in omega arith in
+    let latest : a″ ≡ a + 1 = omega arith in
     let name : a' ≡ a + 1 = omega arith in
     let count : k' ≡ r .adjust .sent + 1 = let e = own-number r is 5 (lit< tt) in let b = fit .sent adjusts in omega arith in
-    rw (name, count, is) (adjust-phase-written r a (reading x), refl)
+    let spoken = withSender r (r .own) (withAdjuster (keptOf r (r .own)) a) in
+    rw (own, latest, name, count, is) (
+      ap (λ (l : List ℕ). set (set (set l 4 (a + 1)) 5 (r .adjust .sent + 1)) 6 x) (own-adjust-written r (fit .senders) (r .own) (fit .own) a)
+          ∙ adjust-phase-written spoken a (reading x),
+      refl,
+    )
 
 -- A HEAD LEADS
 
@@ -114,8 +123,8 @@ module _ (row : List ℕ) (b : Bool) (may : Reads mayLead row b) where
 
 -- A HEAD ADJUSTS
 
--- a number of the row that is 0 without a choice
-is-none : (m : OptNumber) {k : ℕ} → k ≡ numberPlus1 m → k ≡ 0 → isNumber m ≡ false
+-- k is what the row has of a choice
+pub is-none : (m : OptNumber) {k : ℕ} → k ≡ numberPlus1 m → k ≡ 0 → isNumber m ≡ false
 is-none NoNumber k-is e = refl
 is-none (SomeNumber v) k-is e = absurd (omega arith)
 

@@ -35,7 +35,7 @@ pub fn head_index(p: u32) -> usize
     (p % 16) as usize
 }
 
-// "A vote carries the candidate and h's own start reading of it, or the mark "none"; it is also h's own vote reading"
+// "A vote carries the candidate and h's own start reading of it, or the mark "none"; it is also h's own vote reading", and its latest vote.
 pub fn vote(row: &mut Row, c: u32) -> Sent
     ensures { λ s. ⌜ (c < 16 → Acts (vote c) (now (row .entry)) (now (row .exit)) s) ⌝ }
 {
@@ -46,6 +46,7 @@ pub fn vote(row: &mut Row, c: u32) -> Sent
     row[at::CANDIDATE] = std::num::wrapping_add_u32(c, 1);
     row[at::VOTES_SENT] = std::num::wrapping_add_u32(serial, 1);
     row[at::VOTE_READINGS + head_index(own)] = x;
+    row[at::LATEST_VOTES + head_index(own)] = std::num::wrapping_add_u32(c, 1);
     Sent {
         kind: 5,
         serial,
@@ -54,11 +55,13 @@ pub fn vote(row: &mut Row, c: u32) -> Sent
     }
 }
 
-// An adjust carries adjuster and adjustment.
+// An adjust carries adjuster and adjustment; it is h's own latest adjust.
 pub fn adjust(row: &mut Row, a: u32, x: u32) -> Sent
     ensures { λ s. ⌜ (a < 16 → Acts (adjust a (reading x)) (now (row .entry)) (now (row .exit)) s) ⌝ }
 {
     let serial = row[at::ADJUSTS_SENT];
+    let own = row[at::OWN];
+    row[at::LATEST_ADJUSTS + head_index(own)] = std::num::wrapping_add_u32(a, 1);
     row[at::ADJUSTER] = std::num::wrapping_add_u32(a, 1);
     row[at::ADJUSTS_SENT] = std::num::wrapping_add_u32(serial, 1);
     row[at::ADJUSTMENT] = x;
@@ -70,12 +73,18 @@ pub fn adjust(row: &mut Row, a: u32, x: u32) -> Sent
     }
 }
 
+// "with the vote open, no candidate"
+pub fn is_undecided(marks: u32) -> bool
+    ensures { λ b. ⌜ b ≡ (not (hasMark marks 8) && not (hasMark marks 64)) ⌝ }
+{
+    !has_mark(marks, mark::VOTE_CLOSE) && !has_mark(marks, mark::CANDIDATE)
+}
+
 // "once the turn is taken, with the vote open, no candidate"
 fn waits(marks: u32) -> bool
     ensures { λ b. ⌜ b ≡ (hasMark marks 4 && (not (hasMark marks 8) && not (hasMark marks 64))) ⌝ }
 {
-    has_mark(marks, mark::VOTE_TURN)
-        && (!has_mark(marks, mark::VOTE_CLOSE) && !has_mark(marks, mark::CANDIDATE))
+    has_mark(marks, mark::VOTE_TURN) && is_undecided(marks)
 }
 
 // "and at least f + 1 start readings held"

@@ -1,5 +1,6 @@
 // One head's step, in place on its row: what an accepted action does, for a board and for the run of a sheet.
 mod actions;
+mod early;
 mod frames;
 
 use actions::adjust_close;
@@ -21,7 +22,7 @@ ghost use mathlib.Core.Bool.{cond};
 ghost use Prim.Native.Nat.{_+_, _%_, _^_};
 ghost use Rattle.protocol.specs.declared.HeadRecord.{HeadRecord};
 ghost use Rattle.protocol.specs.Record.{reading};
-ghost use Rattle.protocol.specs.Step.{withLast, effect, actionOf};
+ghost use Rattle.protocol.specs.Step.{withLast, act, takenAs, actionOf};
 ghost use Rattle.head_row.specs.Promises.{Acts};
 ghost use Rattle.head_step.specs.Sized.{InputSized};
 
@@ -37,9 +38,9 @@ fn reading_plus_1(none: bool, carried: u32) -> u32
 }
 
 // What an accepted action does: "Every accepted action makes its reading the last reading".
-pub fn effect(row: &mut Row, i: Input) -> Sent
+pub fn act(row: &mut Row, i: Input) -> Sent
     ensures { λ s. ⌜ (InputSized i
-        → Acts (λ (r : HeadRecord). effect (withLast r (reading (i .reading))) (actionOf i)) (now (row .entry)) (now (row .exit)) s) ⌝ }
+        → Acts (λ (r : HeadRecord). act (withLast r (reading (i .reading))) (takenAs r (actionOf i))) (now (row .entry)) (now (row .exit)) s) ⌝ }
 {
     row[at::LAST] = i.reading;
     let a = i.action;

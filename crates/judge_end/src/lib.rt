@@ -8,7 +8,7 @@ use protocol::at;
 use protocol::mark;
 use sheet_state::head_index;
 ghost use mathlib.Core.Path.{_≡_};
-ghost use mathlib.Core.Bool.{cond, _&&_};
+ghost use mathlib.Core.Bool.{cond, _&&_, _||_};
 ghost use mathlib.Core.List.{List, [], _∷_};
 ghost use Prim.Native.Nat.{ℕ, _≤_};
 ghost use Rattle.protocol.specs.Base.{countBelow};
@@ -43,12 +43,12 @@ pub fn premise_1(g: Setting) -> bool
     g.n as u16 <= correct_heads(g) as u16 + g.f as u16
 }
 
-// A head's marks after actions 6, 7 and 9.
-fn has_ended(m: u32) -> bool
-    ensures { λ b. ⌜ b ≡ (hasMark m 8 && (hasMark m 16 && hasMark m 32)) ⌝ }
+// A head's marks after actions 6, 7 and 9, or early closes in their place.
+fn has_ended(m: u32, early: bool) -> bool
+    ensures { λ b. ⌜ b ≡ (hasMark m 8 && ((hasMark m 16 || early) && hasMark m 32)) ⌝ }
 {
     has_mark(m, mark::VOTE_CLOSE)
-        && (has_mark(m, mark::ADJUST_TURN) && has_mark(m, mark::ADJUST_CLOSE))
+        && ((has_mark(m, mark::ADJUST_TURN) | early) && has_mark(m, mark::ADJUST_CLOSE))
 }
 
 // "4. Every correct head takes actions 6, 7 and 9"
@@ -57,7 +57,8 @@ pub fn premise_4(g: Setting, heads: &[Row; 16]) -> bool
 {
     let mut q: u8 = 0;
     while q < g.n {
-        if is_correct(g, q) & !has_ended(heads[head_index(q)][at::MARKS]) {
+        let h = head_index(q);
+        if is_correct(g, q) & !has_ended(heads[h][at::MARKS], heads[h][at::ADJUST_EARLY] == 1) {
             return false;
         }
         q += 1;

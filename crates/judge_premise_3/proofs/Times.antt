@@ -4,7 +4,7 @@ use mathlib.Core.Path.{_≡_, refl, sym, _∙_, ap, ap₂}
 use mathlib.Core.Bool.{Bool, true, false, cond, not, _&&_}
 use mathlib.Core.List.{List}
 use mathlib.Core.Logic.{_≢_}
-use Prim.Native.Nat.{ℕ, zero, suc, _+_, _*_, _/_, _%_, _^_, _≤_, _<_}
+use Prim.Native.Nat.{ℕ, zero, _+_, _*_, _/_, _%_, _^_, _≤_, _<_}
 use native.Mathlib.Omega.{arith}
 use lib.Dec.{leb, eqb}
 use lib.ListN.{getD}
@@ -15,6 +15,7 @@ use Rattle.protocol.specs.Words.{isCorrect}
 use Rattle.protocol.specs.Run.{History}
 use Rattle.protocol.specs.Premises.{received, lastStart, correctAll, startWithin}
 use Rattle.protocol.proofs.Tables.{table-at}
+use Rattle.protocol.proofs.Tests.{all-same}
 use Rattle.data_sets.proofs.Loops.{all-more, all-fails}
 use Rattle.judge_premise_3.specs.Starts.{startTime, startTimes}
 use Rattle.judge_premise_3.proofs.Extremes.{earliest, latest, all-within}
@@ -22,10 +23,6 @@ use Rattle.judge_premise_3.proofs.Extremes.{earliest, latest, all-withi
 -- what is kept of head p's start and head q
 abbrev pub timeAt : List ℕ → ℕ → ℕ → ℕ
 timeAt times p q = getD times (p % 16 * 16 + q % 16) 0
-
-pub all-same : (n : ℕ) (p r : ℕ → Bool) → ((q : ℕ) → q < n → p q ≡ r q) → allBelow n p ≡ allBelow n r
-all-same zero p r f = refl
-all-same (suc n) p r f = ap₂ _&&_ (f n (omega arith)) (all-same n p r (λ q l. f q (omega arith)))
 
 -- 0 stands for no delivery
 kept : (b : Bool) (x : ℕ) → not (eqb (cond b (x + 1) 0) 0) ≡ b

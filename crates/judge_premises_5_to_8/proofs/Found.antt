@@ -2,7 +2,7 @@
 -- is, whether no frame came late, and whether a correct head has closed the phase. An entry changes them only if it delivers a
 -- frame of the phase or closes it.
 -- Main results: `is-over`, `not-over`, `is-late`, `not-late`; `frame-of-faulty`, `frame-in-time`, `frame-late`; `close-of-faulty`,
--- `close-again`, `close-after-late`, `first-close-reached`, `first-close-unreached`; `found-apart`.
+-- `no-correct-close`, `close-again`, `close-after-late`, `first-close-reached`, `first-close-unreached`; `found-apart`.
 use mathlib.Core.Path.{_≡_, refl, sym, _∙_, ap, ap₂}
 use mathlib.Core.Bool.{Bool, true, false, cond, not, _&&_, _||_}
 use mathlib.Core.List.{List, [], _∷_}
@@ -16,12 +16,13 @@ use Rattle.protocol.specs.declared.Setting.{Setting}
 use Rattle.protocol.specs.declared.Entry.{Entry}
 use Rattle.protocol.specs.Base.{_⇒_, any}
 use Rattle.protocol.specs.Words.{isCorrect}
-use Rattle.protocol.specs.Record.{Kind, votes, adjusts}
+use Rattle.protocol.specs.Record.{Kind, votes, adjusts, phaseOf}
+use Rattle.protocol.specs.Row.{phaseKind}
 use Rattle.protocol.specs.Run.{Event, History}
 use Rattle.protocol.specs.Premises.{delivery, closing, each, before, correctTakes, correctCloses, noneBetween, premise3, premise5, premise7}
-use Rattle.protocol.proofs.Tests.{not-true, not-false, or-right, and-true}
+use Rattle.protocol.proofs.Tests.{not-true, not-false, or-right, and-true, eqb-same}
 use Rattle.judge_premise_3.proofs.Events.{premise-3-kept}
-use Rattle.judge_premises_5_to_8.specs.Closes.{phaseKind, phaseReached, isLate, flag, foundOf, Found}
+use Rattle.judge_premises_5_to_8.specs.Closes.{phaseReached, isLate, flag, foundOf, Found}
 
 -- A PHASE
 
@@ -94,9 +95,12 @@ module _ (g : Setting) (e : Event) (s : History) where
       neither true = refl
       neither false = refl
 
+  not-closing : (k : Kind) → e .entry .action ≢ closing k → correctCloses g k e ≡ false
+  not-closing k other = ap (λ (b : Bool). b && not (phaseOf k (e .after) .early)) (not-taken (closing k) other)
+
   findings-same : (k : Kind) → e .entry .action ≢ delivery k → e .entry .action ≢ closing k → findingsOf g (e ∷ s) k ≡ findingsOf g s k
   findings-same k d c =
-      findings-next k ∙ ap₂ (λ (x y : Bool). findingsAfter x y (phaseReached g k s) (findingsOf g s k)) (not-taken (delivery k) d) (not-taken (closing k) c)
+      findings-next k ∙ ap₂ (λ (x y : Bool). findingsAfter x y (phaseReached g k s) (findingsOf g s k)) (not-taken (delivery k) d) (not-closing k c)
 
 -- ALL THAT WAS FOUND
 
@@ -182,17 +186,9 @@ module _ (first : ℕ) (starts : Bool) (w : Kind → Findings) (own : Findings) 
 
 -- ONE MORE ENTRY
 
-delivers-is : (k : Kind) (closes : Bool) → eqb (cond closes (closing k) (delivery k)) (delivery k) ≡ not closes
-delivers-is votes true = refl
-delivers-is votes false = refl
-delivers-is adjusts true = refl
-delivers-is adjusts false = refl
-
-closes-is : (k : Kind) (closes : Bool) → eqb (cond closes (closing k) (delivery k)) (closing k) ≡ closes
-closes-is votes true = refl
-closes-is votes false = refl
-closes-is adjusts true = refl
-closes-is adjusts false = refl
+no-close : (k : Kind) → delivery k ≢ closing k
+no-close votes z = omega arith
+no-close adjusts z = omega arith
 
 -- nothing is asked of starts then, or of the other phase
 elsewhere : (phase a : ℕ) (closes : Bool) → a ≡ cond closes (closing (phaseKind phase)) (delivery (phaseKind phase))
@@ -202,22 +198,25 @@ elsewhere zero a false is = (λ z. omega arith, λ z. omega arith, λ z. omega a
 elsewhere (suc phase) a true is = (λ z. omega arith, λ z. omega arith, λ z. omega arith, λ z. omega arith)
 elsewhere (suc phase) a false is = (λ z. omega arith, λ z. omega arith, λ z. omega arith, λ z. omega arith)
 
--- the event closes the phase or delivers a frame of it
+-- the event has the action that closes the phase, or delivers a frame of it
 module _ (g : Setting) (e : Event) (s : History) (phase : ℕ) (closes : Bool) (is : e .entry .action ≡ cond closes (closing (phaseKind phase)) (delivery (phaseKind phase))) where
-  abbrev findingsNow : Findings
-  findingsNow = findingsAfter (isCorrect g (e .entry .head) && not closes) (isCorrect g (e .entry .head) && closes) (phaseReached g (phaseKind phase) s) (findingsOf g s (phaseKind phase))
-
-  found-next : (first : ℕ) → foundOf g (e ∷ s) first ≡ flagsWith phase first (premise3 g s) (findingsOf g s) findingsNow
+  found-next : (first : ℕ)
+      → foundOf g (e ∷ s) first
+      ≡ flagsWith phase first (premise3 g s) (findingsOf g s)
+      (findingsAfter (correctTakes g (delivery (phaseKind phase)) e) (correctCloses g (phaseKind phase) e) (phaseReached g (phaseKind phase) s) (findingsOf g s (phaseKind phase)))
   found-next first =
       let u = elsewhere phase (e .entry .action) closes is in
       found-is g (e ∷ s) phase first
       ∙ flags-same phase first (findingsOf g (e ∷ s)) (findingsOf g s) (premise-3-kept e s g (u .0) (u .1)) (findings-same g e s (otherThan phase) (u .2) (u .3))
-      (findings-next g e s (phaseKind phase)
-      ∙ ap₂ (λ (x y : Bool). findingsAfter (isCorrect g (e .entry .head) && x) (isCorrect g (e .entry .head) && y) (phaseReached g (phaseKind phase) s) (findingsOf g s (phaseKind phase)))
-      (ap (λ (a : ℕ). eqb a (delivery (phaseKind phase))) is ∙ delivers-is (phaseKind phase) closes) (ap (λ (a : ℕ). eqb a (closing (phaseKind phase))) is ∙ closes-is (phaseKind phase) closes))
+      (findings-next g e s (phaseKind phase))
 
-  found-by : (m : List ℕ) (first : ℕ) → m ≡ flagsWith phase first (premise3 g s) (findingsOf g s) findingsNow → Found g (e ∷ s) m
-  found-by m first h = found-of g (e ∷ s) m first (h ∙ sym (found-next first))
+  found-by : {delivered closed : Bool} → correctTakes g (delivery (phaseKind phase)) e ≡ delivered → correctCloses g (phaseKind phase) e ≡ closed
+      → (m : List ℕ) (first : ℕ) → m ≡ flagsWith phase first (premise3 g s) (findingsOf g s) (findingsAfter delivered closed (phaseReached g (phaseKind phase) s) (findingsOf g s (phaseKind phase)))
+      → Found g (e ∷ s) m
+  found-by d c m first h =
+      found-of g (e ∷ s) m first
+      (h ∙ sym (found-next first
+      ∙ ap₂ (λ (x y : Bool). flagsWith phase first (premise3 g s) (findingsOf g s) (findingsAfter x y (phaseReached g (phaseKind phase) s) (findingsOf g s (phaseKind phase)))) d c))
 
 flag-set : (b : Bool) → flag b ≡ 1 → b ≡ true
 flag-set true x = refl
@@ -272,31 +271,43 @@ module _ (g : Setting) (s : History) (phase : ℕ) (below : phase < 2) (l : List
 
     -- it delivers a frame of the phase
     module _ (is : x .action ≡ delivery (phaseKind phase)) where
+      by-frame : {b : Bool} → isCorrect g (x .head) ≡ b → (m : List ℕ) (first : ℕ) → m ≡ having first (findingsAfter b false (phaseReached g (phaseKind phase) s) was) → Found g (e ∷ s) m
+      by-frame c =
+          found-by g e s phase false (takes is)
+          (ap (λ (a : ℕ). isCorrect g (e .entry .head) && eqb a (delivery (phaseKind phase))) (takes is)
+          ∙ ap (λ (b : Bool). isCorrect g (e .entry .head) && b) (eqb-same (delivery (phaseKind phase))) ∙ and-true _ ∙ of-head c)
+          (not-closing g e s (phaseKind phase) (λ z. no-close (phaseKind phase) (sym (takes is) ∙ z)))
+
       pub frame-of-faulty : isCorrect g (x .head) ≡ false → Found g (e ∷ s) (set l 0 1)
-      frame-of-faulty c = found-by g e s phase false (takes is) _ 1 (none-set ∙ ap (having 1) (rw (of-head c) refl))
+      frame-of-faulty c = by-frame c _ 1 none-set
 
       pub frame-in-time : isCorrect g (x .head) ≡ true → isOver ≡ false → Found g (e ∷ s) (set l 0 1)
-      frame-in-time c o = found-by g e s phase false (takes is) _ 1 (none-set ∙ ap (having 1) (rw (of-head c, o) refl))
+      frame-in-time c o = by-frame c _ 1 (none-set ∙ ap (having 1) (rw o refl))
 
       pub frame-late : isCorrect g (x .head) ≡ true → isOver ≡ true → Found g (e ∷ s) (set l (10 + phase) 1)
       frame-late c o =
-          found-by g e s phase false (takes is) _ (getD l 0 0)
-          (ap (λ (m : List ℕ). set m (10 + phase) 1) l-is ∙ set-late _ _ _ _ phase below ∙ ap (having (getD l 0 0)) (rw (of-head c, o) refl))
+          by-frame c _ (getD l 0 0) (ap (λ (m : List ℕ). set m (10 + phase) 1) l-is ∙ set-late _ _ _ _ phase below ∙ ap (having (getD l 0 0)) (rw o refl))
 
-    -- it closes the phase
+    -- it has the action that closes the phase
     module _ (is : x .action ≡ closing (phaseKind phase)) where
-      pub close-of-faulty : isCorrect g (x .head) ≡ false → Found g (e ∷ s) (set l 0 1)
-      close-of-faulty c = found-by g e s phase true (takes is) _ 1 (none-set ∙ ap (having 1) (rw (of-head c) refl))
+      by-close : {b : Bool} → correctCloses g (phaseKind phase) e ≡ b → (m : List ℕ) (first : ℕ) → m ≡ having first (findingsAfter false b (phaseReached g (phaseKind phase) s) was) → Found g (e ∷ s) m
+      by-close = found-by g e s phase true (takes is) (not-taken g e s (delivery (phaseKind phase)) (λ z. no-close (phaseKind phase) (sym z ∙ takes is)))
 
-      module _ (c : isCorrect g (x .head) ≡ true) where
+      pub no-correct-close : correctCloses g (phaseKind phase) e ≡ false → Found g (e ∷ s) (set l 0 1)
+      no-correct-close c = by-close c _ 1 none-set
+
+      pub close-of-faulty : isCorrect g (x .head) ≡ false → Found g (e ∷ s) (set l 0 1)
+      close-of-faulty c =
+          no-correct-close (ap (λ (b : Bool). (b && eqb (e .entry .action) (closing (phaseKind phase))) && not (phaseOf (phaseKind phase) (e .after) .early)) (of-head c))
+
+      module _ (c : correctCloses g (phaseKind phase) e ≡ true) where
         pub close-again : isOver ≡ true → isLate g (phaseKind phase) s ≡ false → Found g (e ∷ s) (set l 0 1)
-        close-again o d = found-by g e s phase true (takes is) _ 1 (none-set ∙ ap (having 1) (rw (of-head c, o, not-false {b = was .in-time} d) refl))
+        close-again o d = by-close c _ 1 (none-set ∙ ap (having 1) (rw (o, not-false {b = was .in-time} d) refl))
 
         pub close-after-late : isOver ≡ true → isLate g (phaseKind phase) s ≡ true → Found g (e ∷ s) (set l (6 + 2 * phase) 1)
         close-after-late o d =
-            found-by g e s phase true (takes is) _ (getD l 0 0)
-            (ap (λ (m : List ℕ). set m (6 + 2 * phase) 1) l-is ∙ set-some-between _ _ _ _ phase below
-            ∙ ap (having (getD l 0 0)) (rw (of-head c, o, not-true {b = was .in-time} d) refl))
+            by-close c _ (getD l 0 0)
+            (ap (λ (m : List ℕ). set m (6 + 2 * phase) 1) l-is ∙ set-some-between _ _ _ _ phase below ∙ ap (having (getD l 0 0)) (rw (o, not-true {b = was .in-time} d) refl))
 
         -- for the first time
         module _ (o : isOver ≡ false) where
@@ -305,15 +316,14 @@ module _ (g : Setting) (s : History) (phase : ℕ) (below : phase < 2) (l : List
 
           pub first-close-reached : phaseReached g (phaseKind phase) s ≡ true → Found g (e ∷ s) (set (set l (12 + phase) 1) 0 1)
           first-close-reached h =
-              found-by g e s phase true (takes is) _ 1
-              (ap (λ (m : List ℕ). set m 0 1) shut-set ∙ set-none _ _ _ _ phase
-              ∙ ap (having 1) (rw (of-head c, o, h, in-time-before g (phaseKind phase) s o) refl))
+              by-close c _ 1
+              (ap (λ (m : List ℕ). set m 0 1) shut-set ∙ set-none _ _ _ _ phase ∙ ap (having 1) (rw (o, h, in-time-before g (phaseKind phase) s o) refl))
 
           pub first-close-unreached : phaseReached g (phaseKind phase) s ≡ false → Found g (e ∷ s) (set (set l (12 + phase) 1) (5 + 2 * phase) 1)
           first-close-unreached h =
-              found-by g e s phase true (takes is) _ (getD l 0 0)
+              by-close c _ (getD l 0 0)
               (ap (λ (m : List ℕ). set m (5 + 2 * phase) 1) shut-set ∙ set-unreached _ _ _ _ phase below
-              ∙ ap (having (getD l 0 0)) (rw (of-head c, o, h, in-time-before g (phaseKind phase) s o) refl))
+              ∙ ap (having (getD l 0 0)) (rw (o, h, in-time-before g (phaseKind phase) s o) refl))
 
 -- the next event concerns neither phase; b is what premise 3 asks at it
 pub found-apart : (g : Setting) (e : Event) (s : History) → ((k : Kind) → (e .entry .action ≢ delivery k) × (e .entry .action ≢ closing k)) → (l : List ℕ) → Found g s l

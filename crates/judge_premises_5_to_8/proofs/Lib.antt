@@ -3,4 +3,5 @@ pub mod Heads
 pub mod Receivers
 pub mod Candidates
 pub mod Found
+pub mod Closing
 pub mod Reached

@@ -4,7 +4,7 @@ use mathlib.Core.Path.{_≡_, refl, sym, _∙_, ap, ap₂, subst}
 use mathlib.Core.Bool.{Bool, true, false, not, _&&_, _||_}
 use mathlib.Core.List.{List, []}
 use mathlib.Core.Logic.{_≢_}
-use Prim.Native.Nat.{ℕ, zero, suc, _+_, _%_, _≤_, _<_, min}
+use Prim.Native.Nat.{ℕ, _+_, _%_, _≤_, _<_, min}
 use native.Mathlib.Omega.{arith}
 use lib.Dec.{eqb}
 use lib.ListN.{getD}
@@ -17,17 +17,17 @@ use Rattle.protocol.specs.Base.{_⇒_, any, allBelow}
 use Rattle.protocol.specs.Words.{isCorrect, settingAt}
 use Rattle.protocol.specs.Record.{Kind, votes, adjusts, phaseOf, isNumber, marksNumber}
 use Rattle.protocol.specs.Step.{hasMark}
-use Rattle.protocol.specs.Row.{numberPlus1, rowOf}
+use Rattle.protocol.specs.Row.{numberPlus1, rowOf, phaseKind}
 use Rattle.protocol.specs.Run.{History, recordOf}
-use Rattle.protocol.specs.Premises.{delivery, took, received, correctAll, correctCloses, framesReached, votesReached, adjustsReached}
-use Rattle.protocol.proofs.Tests.{not-true, not-false}
-use Rattle.protocol.proofs.Valid.{Valid, started-took, turn-took}
+use Rattle.protocol.specs.Premises.{delivery, took, received, correctAll, correctCloses, isEarly, framesReached, votesReached, adjustsReached}
+use Rattle.protocol.proofs.Tests.{not-true, not-false, all-same}
+use Rattle.protocol.proofs.Valid.{Valid, started-took, adjust-turn-took}
 use Rattle.protocol.proofs.Ranges.{votes-below}
+use Rattle.head_row.proofs.Rows.{early-read, other-phase}
+use Rattle.head_open.proofs.Marks.{has-started, has-vote-turn, has-adjust-turn}
 use Rattle.sheet_state.specs.Arrays.{Stands}
 use Rattle.sheet_state.proofs.Standing.{valid-history, row-at}
-use Rattle.head_open.proofs.Marks.{has-started, has-vote-turn, has-adjust-turn}
-use Rattle.judge_premise_3.proofs.Times.{all-same}
-use Rattle.judge_premises_5_to_8.specs.Closes.{phaseKind, receiverSets, frameReached, headReached, phaseReached}
+use Rattle.judge_premises_5_to_8.specs.Closes.{receiverSets, frameReached, headReached, phaseReached}
 use Rattle.judge_premises_5_to_8.proofs.Heads.{Heads, heads-stand}
 use Rattle.judge_premises_5_to_8.proofs.Receivers.{reached-others}
 use Rattle.judge_premises_5_to_8.proofs.Candidates.{took-part}
@@ -41,10 +41,6 @@ has-number (SomeNumber k) = ap not (ne-eqb (k + 1) 0 (λ z. omega arith))
 abbrev sentIndex : Kind → ℕ
 sentIndex votes = 3
 sentIndex adjusts = 5
-
-other-kind : (phase : ℕ) → phase ≢ 0 → phaseKind phase ≡ adjusts
-other-kind zero n = absurd (n refl)
-other-kind (suc phase) n = refl
 
 -- a correct head p, whose row stands at i
 module _ {ws : List ℕ} {j : ℕ} {s : History} {rows : List (List ℕ)} (S : Stands ws j s rows) {g : Setting} (g-is : g ≡ settingAt ws) (p : ℕ) (c : isCorrect g p ≡ true) (i : ℕ) (i-is : i ≡ p % 16) where
@@ -103,8 +99,9 @@ module _ {ws : List ℕ} {j : ℕ} {s : History} {rows : List (List ℕ)} (S : S
   start-is : hasMark (number 1) 1 ≡ took 1 p s
   start-is = ap (λ (x : ℕ). hasMark x 1) marks-are ∙ has-started r ∙ started-took g v p
 
-  adjust-turn-is : hasMark (number 1) 16 ≡ took 7 p s
-  adjust-turn-is = ap (λ (x : ℕ). hasMark x 16) marks-are ∙ has-adjust-turn r ∙ turn-took g adjusts v p
+  -- "an early adjust close counts as 7 .. taken"
+  adjust-turn-is : (hasMark (number 1) 16 || eqb (number 11) 1) ≡ (took 7 p s || isEarly g adjusts s p)
+  adjust-turn-is = ap₂ _||_ (ap (λ (x : ℕ). hasMark x 16) marks-are ∙ has-adjust-turn r) (early-read r adjusts row-is) ∙ adjust-turn-took g v p
 
   module _ (phase : ℕ) {sets : List ℕ} (sets-are : sets ≡ receiverSets s) where
     votes-by-row : phase ≡ 0 → any (correctCloses g (phaseKind phase)) s ≡ false
@@ -114,8 +111,8 @@ module _ {ws : List ℕ} {j : ℕ} {s : History} {rows : List (List ℕ)} (S : S
         ∙ sym (ap₂ _&&_ (part-is (subst (λ (n : ℕ). any (correctCloses g (phaseKind n)) s ≡ false) zeroth o))
         (ap₂ _&&_ (ap (λ (b : Bool). b ⇒ correctAll g (λ q. received 2 p 0 q s)) start-is) (frames-are sets-are votes)))
 
-    adjusts-by-row : phase ≢ 0 → headReached g (phaseKind phase) s p ≡ (hasMark (number 1) 16 && allBelow (min (number 5) 16) (frameReached g sets 8 p))
-    adjusts-by-row other = ap (λ (k : Kind). headReached g k s p) (other-kind phase other) ∙ sym (ap₂ _&&_ adjust-turn-is (frames-are sets-are adjusts))
+    adjusts-by-row : phase ≢ 0 → headReached g (phaseKind phase) s p ≡ ((hasMark (number 1) 16 || eqb (number 11) 1) && allBelow (min (number 5) 16) (frameReached g sets 8 p))
+    adjusts-by-row other = ap (λ (k : Kind). headReached g k s p) (other-phase phase other) ∙ sym (ap₂ _&&_ adjust-turn-is (frames-are sets-are adjusts))
 
     -- premise 5, part by part; m and b are what the marks and the start were found to be
     module _ (zeroth : phase ≡ 0) (o : any (correctCloses g (phaseKind phase)) s ≡ false) {m : Bool} (turned : m ≡ hasMark (number 1) 4) where
@@ -137,11 +134,17 @@ module _ {ws : List ℕ} {j : ℕ} {s : History} {rows : List (List ℕ)} (S : S
 
     -- premise 7
     module _ (other : phase ≢ 0) {m : Bool} (turned : m ≡ hasMark (number 1) 16) where
-      pub no-adjust-turn : not m ≡ true → false ≡ headReached g (phaseKind phase) s p
-      no-adjust-turn unturned = sym (adjusts-by-row other ∙ rw (sym turned ∙ not-true {b = m} unturned) refl)
+      abbrev hasTurned : Bool
+      hasTurned = m || eqb (number 11) 1
 
-      pub adjusts-reached : not m ≡ false → {h : Bool} → h ≡ allBelow (min (number 5) 16) (frameReached g sets 8 p) → h ≡ headReached g (phaseKind phase) s p
-      adjusts-reached took frames = sym (adjusts-by-row other ∙ rw (sym turned ∙ not-false {b = m} took) (sym frames))
+      turned-same : (hasMark (number 1) 16 || eqb (number 11) 1) ≡ hasTurned
+      turned-same = ap (λ (x : Bool). x || eqb (number 11) 1) (sym turned)
+
+      pub no-adjust-turn : not hasTurned ≡ true → false ≡ headReached g (phaseKind phase) s p
+      no-adjust-turn unturned = sym (adjusts-by-row other ∙ rw (turned-same ∙ not-true {b = hasTurned} unturned) refl)
+
+      pub adjusts-reached : not hasTurned ≡ false → {h : Bool} → h ≡ allBelow (min (number 5) 16) (frameReached g sets 8 p) → h ≡ headReached g (phaseKind phase) s p
+      adjusts-reached took frames = sym (adjusts-by-row other ∙ rw (turned-same ∙ not-false {b = hasTurned} took) (sym frames))
 
 pub phase-by-heads : (g : Setting) (k : Kind) (s : History) → phaseReached g k s ≡ correctAll g (headReached g k s)
 unfolding votesReached adjustsReached

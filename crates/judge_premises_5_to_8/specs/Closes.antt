@@ -2,21 +2,16 @@
 use mathlib.Core.Path.{_≡_}
 use mathlib.Core.Bool.{Bool, cond, not, _&&_, _||_}
 use mathlib.Core.List.{List, [], _∷_}
-use Prim.Native.Nat.{ℕ, zero, suc}
+use Prim.Native.Nat.{ℕ}
 use lib.ListN.{getD}
 use Rattle.protocol.specs.declared.Setting.{Setting}
 use Rattle.protocol.specs.Base.{_⇒_, any, table}
 use Rattle.protocol.specs.Record.{Kind, votes, adjusts}
 use Rattle.protocol.specs.Run.{History, recordOf}
-use Rattle.protocol.specs.Premises.{delivery, took, received, each, correctAll, correctTakes, correctCloses, framesReached, votesReached, adjustsReached, noneBetween, premise3, premise5, premise7}
+use Rattle.protocol.specs.Premises.{delivery, took, received, each, correctAll, correctTakes, correctCloses, isEarly, framesReached, votesReached, adjustsReached, noneBetween, premise3, premise5, premise7}
 use Rattle.data_sets.specs.Sets.{setOf, withHead, hasAll}
 use Rattle.sheet_state.specs.Indices.{frameIndex}
 use Rattle.sheet_state.specs.Arrays.{actionAt, headAt, serialAt}
-
--- phase 0 is the votes', 1 the adjusts'
-abbrev pub phaseKind : ℕ → Kind
-phaseKind zero = votes
-phaseKind (suc phase) = adjusts
 
 -- by sender and serial, the heads that a vote or an adjust reached
 unfoldable pub receiverSets : History → List ℕ
@@ -31,7 +26,7 @@ abbrev pub headReached : Setting → Kind → History → ℕ → Bool
 headReached g votes s p =
     (took 5 p s || (took 1 p s && (took 3 p s && took 4 p s)))
     && ((took 1 p s ⇒ correctAll g (λ q. received 2 p 0 q s)) && framesReached g 5 (recordOf g s p .vote .sent) s p)
-headReached g adjusts s p = took 7 p s && framesReached g 8 (recordOf g s p .adjust .sent) s p
+headReached g adjusts s p = (took 7 p s || isEarly g adjusts s p) && framesReached g 8 (recordOf g s p .adjust .sent) s p
 
 -- and of all correct heads
 abbrev pub phaseReached : Setting → Kind → History → Bool

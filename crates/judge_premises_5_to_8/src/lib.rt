@@ -16,14 +16,16 @@ ghost use mathlib.Core.Bool.{true, false};
 ghost use mathlib.Core.List.{List, _∷_};
 ghost use Prim.Native.Nat.{ℕ, _≤_, _<_, min};
 ghost use lib.ListN.{set};
+ghost use Rattle.protocol.specs.declared.Verdict.the-variants.{Accepted};
 ghost use Rattle.protocol.specs.Base.{_⇒_, any, allBelow};
 ghost use Rattle.protocol.specs.Words.{isCorrect, settingAt, entryAt};
 ghost use Rattle.protocol.specs.Step.{hasMark};
+ghost use Rattle.protocol.specs.Row.{phaseKind};
 ghost use Rattle.protocol.specs.Run.{History};
 ghost use Rattle.protocol.specs.Premises.{delivery, closing, received, correctAll, correctCloses};
-ghost use Rattle.sheet_state.specs.Arrays.{eventAt, Stands};
+ghost use Rattle.sheet_state.specs.Arrays.{answerAt, eventAt, Stands};
 ghost use Rattle.judge_premise_3.specs.Starts.{startTimes};
-ghost use Rattle.judge_premises_5_to_8.specs.Closes.{phaseKind, receiverSets, frameReached, headReached, phaseReached, Found};
+ghost use Rattle.judge_premises_5_to_8.specs.Closes.{receiverSets, frameReached, headReached, phaseReached, Found};
 
 // What was found so far has under these numbers, and the phase, whether a frame came late, and whether a correct head has closed
 // the phase; under a premise's number whether it is broken.
@@ -56,8 +58,8 @@ fn own_start_reached(g: Setting, p: u8, marks: u32, times: &[u32; 256]) -> bool
     true
 }
 
-// What premise 5 or 7 asks of a correct head p. A head whose vote is open "either took all of 1, 3 and 4 or was delivered a vote" if
-// it has a candidate or took its vote turn.
+// What premise 5 or 7 asks of a correct head p before the first correct close by entry. Until then a head "either took all of 1, 3 and 4
+// or was delivered a vote" if it has a candidate, as after an early close, or took its vote turn.
 fn head_reached(
     g: Setting,
     phase: usize,
@@ -80,7 +82,7 @@ fn head_reached(
         }
         return frames_reached(g, p, 5, heads[i][at::VOTES_SENT], received);
     }
-    if !has_mark(marks, mark::ADJUST_TURN) {
+    if !(has_mark(marks, mark::ADJUST_TURN) | (heads[i][at::ADJUST_EARLY] == 1)) {
         return false;
     }
     frames_reached(g, p, 8, heads[i][at::ADJUSTS_SENT], received)
@@ -109,8 +111,8 @@ fn phase_reached(
     true
 }
 
-// At an entry that closes the phase: the number to set in what was found so far. Premise 5 or 7 is asked at the first correct close,
-// 6 or 8 at the later ones.
+// At an entry with the action that closes the phase: the number to set in what was found so far. Premise 5 or 7 is asked at the first
+// correct close, 6 or 8 at the later ones; a head that has closed the phase early does not close it again.
 pub fn close_breaks(
     g: Setting,
     e: Entry,
@@ -121,11 +123,14 @@ pub fn close_breaks(
     found: &mut [u8; 16],
 ) -> usize
     requires { ⌜ phase < 2 ⌝ }
-    ensures { λ k. ⌜ ((ws : List ℕ) (i : ℕ) (s : History) → Stands ws i s (now (heads .entry)) → g ≡ settingAt ws → e ≡ entryAt ws i → e .action ≡ closing (phaseKind phase)
-        → now (received .entry) ≡ receiverSets s → now (times .entry) ≡ startTimes s → Found g s (now (found .entry))
+    ensures { λ k. ⌜ ((ws : List ℕ) (i : ℕ) (s : History) → Stands ws i s (now (heads .entry)) → g ≡ settingAt ws → e ≡ entryAt ws i → answerAt ws i s .verdict ≡ Accepted
+        → e .action ≡ closing (phaseKind phase) → now (received .entry) ≡ receiverSets s → now (times .entry) ≡ startTimes s → Found g s (now (found .entry))
         → Found g (eventAt ws i s ∷ s) (set (now (found .exit)) k 1)) × (k < 16) ⌝ }
 {
     if !is_correct(g, e.head) {
+        return 0;
+    }
+    if heads[head_index(e.head)][at::VOTE_EARLY + phase] == 1 {
         return 0;
     }
     if found[CLOSED + phase] == 1 {

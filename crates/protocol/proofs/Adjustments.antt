@@ -9,11 +9,11 @@ use native.Mathlib.Omega.{arith}
 use lib.Dec.{eqb}
 use Rattle.protocol.specs.Types.{Reading, OptReading, SomeReading, NoNumber, SomeNumber, HeadRecord, Setting, Stepped, Frame, NoFrame, Start, Vote, Adjust, Action}
 use Rattle.protocol.specs.Record.{fresh}
-use Rattle.protocol.specs.Step.{vote, adjust, accepted}
+use Rattle.protocol.specs.Step.{vote, adjust, accepted, concluded, isTested}
 use Rattle.protocol.specs.Run.{Event, History, recordOf, isDeliveredBy, orElse, frameSent, isFrame, carriedReading}
 use Rattle.protocol.proofs.Tests.{absurd-bool, eqb-same}
 use Rattle.protocol.proofs.Effects.{adjusts, Delivery, named, Sending, nothing, voting, adjusting, send, prepared, sendingOf, Allowed, sends-adjust, allowed, Why, itself, told, Source, computed, passed-on, closed-last, none-is-some, same-number}
-use Rattle.protocol.proofs.Valid.{baseOf, Taken, Valid, start, more, record-at, record-other, by-head, of-effect, fixed, frame-fits}
+use Rattle.protocol.proofs.Valid.{baseOf, Taken, Valid, start, more, record-at, record-other, by-head, delivery-at, is-delivery, of-effect, fixed, frame-fits}
 use Rattle.protocol.proofs.Phases.{held, sent, names, names-other, sent-other, unsent, SendsOne, turn, frame-new, held-sent, last-frame, frame-stays}
 
 -- what the adjust of p under serial j carries
@@ -44,18 +44,18 @@ module _ (g : Setting) where
       r = baseOf g s e
 
       -- a fact of the answer is a fact of the event
-      at : (x : Sending) → sendingOf r a ≡ x → (P : Stepped → Type 0) → P (send x (prepared r a)) → P (accepted (e .after) (e .frame))
-      at x u P h = of-effect g P t (subst (λ (y : Sending). P (send y (prepared r a))) (sym u) h)
+      at : (x : Sending) → sendingOf r a ≡ x → (P : Stepped → Type 0) → P (concluded (isTested r a) (send x (prepared r a))) → P (accepted (e .after) (e .frame))
+      at x u P h = of-effect g P t (subst (λ (y : Sending). P (concluded (isTested r a) (send y (prepared r a)))) (sym u) h)
 
       origin : (c : ℕ) (x : Reading) → Why adjusts r a c → Source r a x → AdjustmentOrigin s e c x
       origin c x (itself is none tu) z = own (is ∙ fixed g v (e .entry .head) .own-is) none
       origin c x (told nu na) (computed n7 m) = absurd (omega arith)
       origin c x (told nu na) (passed-on n8 ca) =
-          let is : e .entry .action ≡ 8 = sym (t .asked .number-is) ∙ nu in
+          let is : e .entry .action ≡ 8 = is-delivery g adjusts t nu in
           reached (e .entry .sender) (e .entry .serial)
-          (subst (λ (y : ℕ). named (frameSent s y (e .entry .sender) (e .entry .serial)) ≡ SomeNumber c) is (ap (λ (d : Delivery). named (d .frame)) (sym (t .asked .delivery-is)) ∙ na))
+          (subst (λ (y : ℕ). named (frameSent s y (e .entry .sender) (e .entry .serial)) ≡ SomeNumber c) is (ap (λ (d : Delivery). named (d .frame)) (sym (delivery-at g t)) ∙ na))
           (subst (λ (y : ℕ). carriedReading (frameSent s y (e .entry .sender) (e .entry .serial)) ≡ SomeReading x) is
-          (ap (λ (d : Delivery). carriedReading (d .frame)) (sym (t .asked .delivery-is)) ∙ ca))
+          (ap (λ (d : Delivery). carriedReading (d .frame)) (sym (delivery-at g t)) ∙ ca))
 
       same : (x : Sending) → sendingOf r a ≡ x → send x (prepared r a) .after .adjustment ≡ r .adjustment → send x (prepared r a) .after .adjust .sent ≡ r .adjust .sent
           → ((j : ℕ) → isDeliveredBy 8 j (send x (prepared r a) .frame) ≡ false) → Adjusting s e

@@ -1,6 +1,6 @@
 -- What has come before each entry of a drafted round, whatever the run makes of it.
--- Main results: `by-entry` (an induction over the round's entries), `took-it`, `got-it` (what has its place earlier has come), `absent`,
--- `not-yet` (what has its place later has not).
+-- Main results: `by-entry` (an induction over the round's entries), `took-it` (what has its place earlier has come), `absent`, `not-yet`
+-- (what has its place later has not).
 use mathlib.Core.Path.{_≡_, refl, sym, _∙_, ap, subst}
 use mathlib.Core.Bool.{Bool, true, false, cond, _||_}
 use mathlib.Core.List.{List, [], _∷_, _++_}

@@ -14,10 +14,10 @@ use Rattle.protocol.specs.Types.{Setting, Entry}
 use Rattle.protocol.specs.Words.{isCorrect, hasSender}
 use Rattle.protocol.specs.Record.{Kind, votes, adjusts}
 use Rattle.protocol.specs.Run.{Event, History, recordOf}
-use Rattle.protocol.specs.Premises.{turning, delivery, closing, takes, receives, took, received, each, lastStart, isSteady, correctAll, correctTakes, correctCloses}
+use Rattle.protocol.specs.Premises.{turning, delivery, closing, takes, receives, took, received, each, lastStart, isSteady, correctAll, correctTakes, correctCloses, isEarly}
 use Rattle.protocol.specs.Premises.{premise1, premise2, startWithin, premise3, premise4, framesReached, votesReached, noneBetween, premise6, adjustsReached, premise8}
 use Rattle.protocol.specs.Draft.{draftEntry, draftEntries, draftSetting, slotTime}
-use Rattle.protocol.proofs.Tests.{absurd-bool, cases, and-left, and-right, and-both, or-second, not-true, implies, not-is-true, below-all, count-all, In, first, next}
+use Rattle.protocol.proofs.Tests.{absurd-bool, cases, and-left, and-right, and-both, or-first, or-second, not-true, implies, not-is-true, below-all, count-all, In, first, next}
 use Rattle.protocol.proofs.Phases.{sent}
 use Rattle.protocol.proofs.DraftOrder.{above-0, opens, At, starts, start-heard, confirms, leads, first-heard, turns, heard, closes, earliest, earliest-close, facts}
 use Rattle.protocol.proofs.DraftPast.{eventOf, historyAfter, Until, Before, limitAt, limit-low, by-entry, until-end, took-it, absent, not-yet}
@@ -138,8 +138,9 @@ module _ (n f begin spacing : ℕ) (two : 2 ≤ n) where
   pub premise-4 : premise4 g drafted ≡ true
   unfolding premise4
   premise-4 =
-      correct-all (λ q. took 6 q drafted && (took 7 q drafted && took 9 q drafted))
-      (λ q l. and-both (took-it at-end (closes votes l) (omega arith)) (and-both (took-turn adjusts at-end q l (omega arith)) (took-it at-end (closes adjusts l) (omega arith))))
+      correct-all (λ q. (took 6 q drafted || isEarly g votes drafted q) && ((took 7 q drafted && took 9 q drafted) || isEarly g adjusts drafted q))
+      (λ q l. and-both (or-first (took 6 q drafted) _ (took-it at-end (closes votes l) (omega arith)))
+      (or-first (took 7 q drafted && took 9 q drafted) _ (and-both (took-turn adjusts at-end q l (omega arith)) (took-it at-end (closes adjusts l) (omega arith)))))
 
   -- premises 5 and 7: before a close each head's one frame has reached all others
   frames-reached : (k : Kind) {i limit : ℕ} {s : History} → Until n begin spacing i limit s → ((q : ℕ) → sent g k s q ≤ 1) → opens n k + 2 * n ≤ i → (p : ℕ) → p < n
@@ -174,8 +175,8 @@ module _ (n f begin spacing : ℕ) (two : 2 ≤ n) where
   unfolding adjustsReached
   adjusts-reached {s = s} at u one is =
       let here = slot-is 9 refl at is in
-      correct-all (λ p. took 7 p s && framesReached g 8 (recordOf g s p .adjust .sent) s p)
-      (λ p l. and-both (took-turn adjusts u p l (omega arith)) (frames-reached adjusts u one (omega arith) p l))
+      correct-all (λ p. (took 7 p s || isEarly g adjusts s p) && framesReached g 8 (recordOf g s p .adjust .sent) s p)
+      (λ p l. and-both (or-first (took 7 p s) _ (took-turn adjusts u p l (omega arith))) (frames-reached adjusts u one (omega arith) p l))
 
   -- premises 6 and 8: no frame is delivered after a close of its phase
   none-between : (k : Kind) → noneBetween g k drafted ≡ true
@@ -188,7 +189,7 @@ module _ (n f begin spacing : ℕ) (two : 2 ≤ n) where
       none-closed : {a q p i : ℕ} {s : History} → At n a q p i → Before n begin spacing a i s → a ≡ delivery k → any (correctCloses g k) s ≡ false
       none-closed {a} {q} {p} {i} at u is =
           absent u (correctCloses g k)
-          (λ e w. let act : e .entry .action ≡ closing k = eqb-true (e .entry .action) (closing k) (and-right (isCorrect g (e .entry .head)) _ w) in
+          (λ e w. let act : e .entry .action ≡ closing k = eqb-true (e .entry .action) (closing k) (and-right (isCorrect g (e .entry .head)) _ (and-left (correctTakes g (closing k) e) _ w)) in
           let lt = facts at .before-closes k is in let le = limit-low a i in let eq = earliest-close n (e .entry .head) k in
           subst (λ (b : ℕ). limitAt a i ≤ earliest n b (e .entry .head)) (sym act) (omega arith))
 

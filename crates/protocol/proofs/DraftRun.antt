@@ -1,8 +1,8 @@
 -- The run of a drafted round: every entry is taken, head 0 is everybody's choice in both phases, and no head sends a second vote or
 -- adjust. What has come before an entry is DraftPast's; here is what the steps made of it.
--- Main results: `Plain`, `ran-more` (one entry more), `ran-round`.
+-- Main results: `Plain`, `ran-more` (one entry more), `by-run` (the whole round).
 use mathlib.Core.Path.{_≡_, refl, sym, _∙_, ap, subst}
-use mathlib.Core.Bool.{Bool, true, false, not, _||_}
+use mathlib.Core.Bool.{Bool, true, false, cond, not, _||_}
 use mathlib.Core.List.{[], _∷_}
 use mathlib.Core.Logic.{_≢_}
 use Prim.Native.Nat.{ℕ, zero, suc, _+_, _*_, _^_, _≤_, _<_}
@@ -10,21 +10,23 @@ use native.Mathlib.Nat.{mul-le-mul-left}
 use native.Mathlib.Omega.{arith}
 use lib.Dec.{ltb, eqb}
 use borrow.Author.Tests.{ltb-true, ltb-false, lt-ltb, le-ltb, le-leb, eqb-true, eqb-false, ne-eqb}
-use Rattle.protocol.specs.Types.{Reading, OptNumber, NoNumber, SomeNumber, Setting, Entry, Stepped, Verdict, Accepted, Refused, Frame}
+use Rattle.protocol.specs.Types.{Action, Look, VoteClose, AdjustTurn, AdjustClose}
+use Rattle.protocol.specs.Types.{HeadRecord, Reading, OptNumber, NoNumber, SomeNumber, Setting, Entry, Stepped, Verdict, Accepted, Refused, Frame}
 use Rattle.protocol.specs.Words.{hasSender, headsFit}
 use Rattle.protocol.specs.Record.{Kind, votes, adjusts, phaseOf, isReading, isNumber, startOf, voteOf, fresh}
-use Rattle.protocol.specs.Step.{startsHeld, isClosed, takeAction, actionOf}
+use Rattle.protocol.specs.Step.{startsHeld, isClosed, takenAs, takeAction, actionOf}
 use Rattle.protocol.specs.Run.{Event, History, recordOf, frameSent, frameOf, isFrame, inputOf, lastTime, stepEntry}
-use Rattle.protocol.specs.Premises.{turning, delivery, closing, takes, took, each}
+use Rattle.protocol.specs.Premises.{turning, delivery, closing, takes, took, each, isEarly}
 use Rattle.protocol.specs.Draft.{draftEntry, draftEntries, draftSetting, lastSlotTime, slotTime}
-use Rattle.protocol.proofs.Tests.{absurd-bool, cases, and-left, and-right, and-both, or-second, or-neither, or-cases, not-is-false, count-all, In, first, next}
-use Rattle.protocol.proofs.Effects.{sendingOf, prepared, send-same, none-is-some, some-number, effect-accepted}
-use Rattle.protocol.proofs.Valid.{Taken, Valid, start, more, taken-entry, baseOf, by-head, record-at, record-other, of-effect, fixed, started-took, confirmed-took, turn-took, closed-took}
+use Rattle.protocol.proofs.Tests.{absurd-bool, cases, cond-elim, and-left, and-right, and-both, or-first, or-second, or-neither, or-cases, not-is-false, count-all, In, first, next}
+use Rattle.protocol.proofs.Effects.{sendingOf, prepared, send-same, none-is-some, no-number, some-number, act-accepted}
+use Rattle.protocol.proofs.Valid.{Taken, Valid, start, more, taken-entry, baseOf, by-head, record-at, record-other, of-effect, fixed, started-took, confirmed-took, turn-took, adjust-turned, closed-took}
 use Rattle.protocol.proofs.Ranges.{run-in-range}
 use Rattle.protocol.proofs.Phases.{held, sent, isOver, names, names-other, held-other, sent-other, Origin, own, reached, Turn, sends-none, sends-one, SendsOne, turn, frame-new, last-frame, held-sent, outranks-below, falls, delivered-choice}
-use Rattle.protocol.proofs.Starts.{start-found, waits, candidate-confirmed}
+use Rattle.protocol.proofs.Spoken.{early-holds, none-early, delivered-holds}
+use Rattle.protocol.proofs.Starts.{start-found, start-after, waits, candidate-confirmed}
 use Rattle.protocol.proofs.Runs.{start-sent, sent-below}
-use Rattle.protocol.proofs.Agreement.{OwnReading, same-reading, new-reading, own-reading-at, adjuster-from-turn}
+use Rattle.protocol.proofs.Agreement.{OwnReading, same-reading, new-reading, own-reading-at, turn-at, adjuster-from-turn}
 use Rattle.protocol.proofs.DraftRoom.{in-time}
 use Rattle.protocol.proofs.DraftOrder.{opens, shuts, At, starts, start-heard, confirms, leads, first-heard, turns, heard, closes, earliest, earliest-turn, earliest-close, facts}
 use Rattle.protocol.proofs.DraftPast.{eventOf, historyAfter, Until, Before, until-more, limit-low, by-entry, took-it, not-yet}
@@ -105,12 +107,13 @@ module _ (g : Setting) where
 
 -- an entry that passes causes 7 to 9 is taken
 accept-entry : (g : Setting) (s : History) (e : Entry) → lastTime s ≤ e .time .0 → recordOf g s (e .head) .last .0 ≤ e .reading .0
-    → (not (hasSender (e .action)) || isFrame (frameOf s e)) ≡ true → isClosed (recordOf g s (e .head)) (actionOf (inputOf e (frameOf s e))) ≡ false
+    → (not (hasSender (e .action)) || isFrame (frameOf s e)) ≡ true
+    → isClosed (recordOf g s (e .head)) (takenAs (recordOf g s (e .head)) (actionOf (inputOf e (frameOf s e)))) ≡ false
     → stepEntry g s true e .verdict ≡ Accepted
 unfolding stepEntry takeAction
 accept-entry g s e ht hr hs ho =
     rw (le-ltb (e .time .0) (lastTime s) ht, le-ltb (e .reading .0) (recordOf g s (e .head) .last .0) hr, hs, ho)
-    (ap (λ (t : Stepped). t .verdict) (sym (effect-accepted _ _)))
+    (ap (λ (t : Stepped). t .verdict) (sym (act-accepted _ _)))
 
 time-within : (top : ℕ) (s : History) → ((d : Event) → In d s → d .entry .time .0 ≤ top) → lastTime s ≤ top
 time-within top [] h = omega arith
@@ -150,11 +153,11 @@ module _ (n f begin spacing : ℕ) (two : 2 ≤ n) (small : n ≤ 16) (few : 2 *
       go NoNumber w = refl
       go (SomeNumber c) w = absurd-bool (candidate-confirmed g small fit v q c w) (not-yet u 3 c (omega arith))
 
-  -- a head that was delivered head 0's frame has a choice, until it closes the phase
+  -- a head that was delivered head 0's frame has a choice
   heard-choice : (k : Kind) {i limit : ℕ} {s : History} → Until n begin spacing i limit s → Valid g s → (q : ℕ) → 0 < q → q < n → opens n k + 1 < i → limit ≤ shuts n k + q
       → (c : ℕ) × (held g k s q ≡ SomeNumber c)
   heard-choice k u v q z l h c =
-      delivered-choice g k small v q (took-it u (first-heard k z l) h) (closed-took g k v q ∙ not-yet u (closing k) q (let eq = earliest-close n q k in omega arith))
+      delivered-holds g k small v q l (took-it u (first-heard k z l) h) (not-yet u (closing k) q (let eq = earliest-close n q k in omega arith))
 
   -- what is so of the entries so far: all were taken, both phases are plain, head 0 has a choice after its turn, and with a candidate a
   -- vote reading of its own
@@ -169,29 +172,52 @@ module _ (n f begin spacing : ℕ) (two : 2 ≤ n) (small : n ≤ 16) (few : 2 *
   unfolding recordOf fresh each
   ran-none = record { valid = start; taken = refl; plain = plain-start g; turned = λ k h. absurd-bool h refl; own-vote = λ c. none-is-some }
 
+  -- the adjust phase closes after the vote phase
+  adjust-open : {s : History} → Valid g s → (q : ℕ) → q < n → recordOf g s q .vote .closed ≡ false → recordOf g s q .adjust .closed ≡ false
+  adjust-open {s} v q l o =
+      cases (recordOf g s q .adjust .closed) (λ w. absurd-bool (run-in-range fit v q l .marks .adjusting (or-second (recordOf g s q .adjust .turn) _ w)) o) (λ w. w)
+
   -- CAUSE 9
 
-  open-at : {a q p i : ℕ} {s : History} (t : ℕ) (x : Frame) → At n a q p i → Before n begin spacing a i s → Valid g s → isClosed (recordOf g s q) (actionOf (inputOf (draftEntry t a q p) x)) ≡ false
-  unfolding isClosed actionOf inputOf
+  vote-closed : {s : History} → Valid g s → (q : ℕ) → took 6 q s ≡ true → recordOf g s q .vote .closed ≡ true
+  vote-closed {s} v q h = closed-took g votes v q ∙ or-first (took 6 q s) _ h
+
+  unturned : {s : History} → Valid g s → (q : ℕ) → took 7 q s ≡ false → recordOf g s q .adjust .turn ≡ false
+  unturned {s} v q h = cases (recordOf g s q .adjust .turn) (λ t. absurd-bool (adjust-turned g v q t) h) (λ t. t)
+
+  still-open : {s : History} → Valid g s → (q : ℕ) → took 9 q s ≡ false → isEarly g adjusts s q ≡ false → recordOf g s q .adjust .closed ≡ false
+  still-open v q h e = closed-took g adjusts v q ∙ or-neither h e
+
+  -- 6, 7 and 9 are open, or spent: their phase is closed early
+  unless-spent : (r : HeadRecord) (early : Bool) (a : Action) → (early ≡ false → isClosed r a ≡ false) → isClosed r (cond early Look a) ≡ false
+  unfolding isClosed
+  unless-spent r early a h = cond-elim (λ (b : Action). isClosed r b ≡ false) early (λ _. refl) h
+
+  open-at : {a q p i : ℕ} {s : History} (t : ℕ) (x : Frame) → At n a q p i → Before n begin spacing a i s → Valid g s
+      → isClosed (recordOf g s q) (takenAs (recordOf g s q) (actionOf (inputOf (draftEntry t a q p) x))) ≡ false
+  unfolding isClosed takenAs actionOf inputOf
   open-at t x (starts {q} l) u v =
-      or-neither (started-took g v q ∙ not-yet u 1 q (omega arith)) (or-neither (no-candidate u v (omega arith) q) (closed-took g votes v q ∙ not-yet u 6 q (omega arith)))
+      or-neither (started-took g v q ∙ not-yet u 1 q (omega arith)) (or-neither (no-candidate u v (omega arith) q)
+      (closed-took g votes v q ∙ or-neither (not-yet u 6 q (omega arith)) (none-early g votes small v q l (no-number _ (no-candidate u v (omega arith) q)))))
   open-at t x (start-heard l lp) u v = refl
   open-at t x (confirms {q} l) u v = or-neither (not-is-false (started-took g v q ∙ took-it u (starts l) (omega arith))) (confirmed-took g v q ∙ not-yet u 3 q (omega arith))
-  open-at t x (leads votes pos) u v = or-neither (not-is-false (confirmed-took g v 0 ∙ took-it u (confirms pos) (omega arith))) (turn-took g votes v 0 ∙ not-yet u 4 0 (omega arith))
-  open-at t x (leads adjusts pos) u v =
-      or-neither (not-is-false (closed-took g votes v 0 ∙ took-it u (closes votes pos) (omega arith)))
-      (or-neither (turn-took g adjusts v 0 ∙ not-yet u 7 0 (omega arith)) (closed-took g adjusts v 0 ∙ not-yet u 9 0 (omega arith)))
+  open-at t x (leads votes pos) u v = or-neither (not-is-false (confirmed-took g v 0 ∙ took-it u (confirms pos) (omega arith))) (turn-took g v 0 ∙ not-yet u 4 0 (omega arith))
+  open-at {s = s} t x (leads adjusts pos) u v =
+      unless-spent (recordOf g s 0) (isEarly g adjusts s 0) AdjustTurn
+      (λ e. or-neither (not-is-false (vote-closed v 0 (took-it u (closes votes pos) (omega arith)))) (or-neither (unturned v 0 (not-yet u 7 0 (omega arith))) (still-open v 0 (not-yet u 9 0 (omega arith)) e)))
   open-at t x (first-heard votes {q} z l) u v = or-neither (ap (eqb 0) (fixed g v q .own-is) ∙ ne-eqb 0 q (λ e. omega arith)) refl
   open-at t x (first-heard adjusts {q} z l) u v = or-neither (ap (eqb 0) (fixed g v q .own-is) ∙ ne-eqb 0 q (λ e. omega arith)) refl
-  open-at t x (turns votes {q} z l) u v = or-neither (not-is-false (confirmed-took g v q ∙ took-it u (confirms l) (omega arith))) (turn-took g votes v q ∙ not-yet u 4 q (omega arith))
-  open-at t x (turns adjusts {q} z l) u v =
-      or-neither (not-is-false (closed-took g votes v q ∙ took-it u (closes votes l) (omega arith)))
-      (or-neither (turn-took g adjusts v q ∙ not-yet u 7 q (omega arith)) (closed-took g adjusts v q ∙ not-yet u 9 q (omega arith)))
+  open-at t x (turns votes {q} z l) u v = or-neither (not-is-false (confirmed-took g v q ∙ took-it u (confirms l) (omega arith))) (turn-took g v q ∙ not-yet u 4 q (omega arith))
+  open-at {s = s} t x (turns adjusts {q} z l) u v =
+      unless-spent (recordOf g s q) (isEarly g adjusts s q) AdjustTurn
+      (λ e. or-neither (not-is-false (vote-closed v q (took-it u (closes votes l) (omega arith)))) (or-neither (unturned v q (not-yet u 7 q (omega arith))) (still-open v q (not-yet u 9 q (omega arith)) e)))
   open-at t x (heard votes {q} {p} d l z lp) u v = or-neither (ap (eqb p) (fixed g v q .own-is) ∙ ne-eqb p q (λ e. d (sym e))) refl
   open-at t x (heard adjusts {q} {p} d l z lp) u v = or-neither (ap (eqb p) (fixed g v q .own-is) ∙ ne-eqb p q (λ e. d (sym e))) refl
-  open-at t x (closes votes {q} l) u v = closed-took g votes v q ∙ not-yet u 6 q (omega arith)
-  open-at t x (closes adjusts {q} l) u v =
-      or-neither (not-is-false (closed-took g votes v q ∙ took-it u (closes votes l) (omega arith))) (closed-took g adjusts v q ∙ not-yet u 9 q (omega arith))
+  open-at {s = s} t x (closes votes {q} l) u v =
+      unless-spent (recordOf g s q) (isEarly g votes s q) VoteClose (λ e. closed-took g votes v q ∙ or-neither (not-yet u 6 q (omega arith)) e)
+  open-at {s = s} t x (closes adjusts {q} l) u v =
+      unless-spent (recordOf g s q) (isEarly g adjusts s q) AdjustClose
+      (λ e. or-neither (not-is-false (vote-closed v q (took-it u (closes votes l) (omega arith)))) (still-open v q (not-yet u 9 q (omega arith)) e))
 
   -- a frame that is delivered was sent
   sent-at : {a q p i : ℕ} {s : History} → At n a q p i → Before n begin spacing a i s → Ran s → (not (hasSender a) || isFrame (frameSent s a p 0)) ≡ true
@@ -246,7 +272,11 @@ module _ (n f begin spacing : ℕ) (two : 2 ≤ n) (small : n ≤ 16) (few : 2 *
     after-first k d tu =
         cases (ltb (opens n k + 1) i) (ltb-true (opens n k + 1) i)
         (λ w. let le = ltb-false (opens n k + 1) i w in
-        absurd-bool (sym (turn-took g k valid-now q) ∙ tu) (not-yet until-now (turning k) q (let eq = earliest-turn n q k in omega arith)))
+        absurd-bool (turn-taken k tu) (not-yet until-now (turning k) q (let eq = earliest-turn n q k in omega arith)))
+      where
+        turn-taken : (k : Kind) → phaseOf k (recordOf g (event ∷ s) q) .turn ≡ true → took (turning k) q (event ∷ s) ≡ true
+        turn-taken votes h = sym (turn-took g valid-now q) ∙ h
+        turn-taken adjusts h = adjust-turned g valid-now q h
 
     follows : (k : Kind) → q ≢ 0 → phaseOf k (recordOf g (event ∷ s) q) .turn ≡ true → isOver g k s q ≡ false → held g k s q ≢ NoNumber
     follows k d tu o none = no-choice (delivered-choice g k small (r .valid) q (took-it u (first-heard k (omega arith) (facts at .head-below)) (after-first k d tu)) o)
@@ -256,6 +286,10 @@ module _ (n f begin spacing : ℕ) (two : 2 ≤ n) (small : n ≤ 16) (few : 2 *
 
     plain-now : (k : Kind) → Plain g k (event ∷ s)
     plain-now k = plain-more g k t (r .valid) (follows k) (r .plain k)
+
+    -- a choice is kept, or falls
+    still-held : (k : Kind) (c : ℕ) → held g k s 0 ≡ SomeNumber c → (c : ℕ) × (held g k (event ∷ s) 0 ≡ SomeNumber c)
+    still-held k c h = let b = falls g k t (r .valid) 0 c (record { choice = c; holds = h; low = omega arith }) in (b .choice, b .holds)
 
     -- HEAD 0'S OWN TURNS
     module _ (head-is : q ≡ 0) where
@@ -271,9 +305,10 @@ module _ (n f begin spacing : ℕ) (two : 2 ≤ n) (small : n ≤ 16) (few : 2 *
           impossible w =
               let here = its-slot 4 refl is in
               let x = fixed g valid-now 0 in
-              let few-held = waits g small valid-now 0 (turn-took g votes valid-now 0 ∙ h) (closed-took g votes valid-now 0 ∙ not-yet until-now 6 0 (omega arith)) w in
+              let vote-open = closed-took g votes valid-now 0 ∙ or-neither (not-yet until-now 6 0 (omega arith)) (none-early g votes small valid-now 0 (omega arith) w) in
+              let few-held = waits g small valid-now 0 (turn-took g valid-now 0 ∙ h) vote-open w in
               let all-held : startsHeld (recordOf g (event ∷ s) 0) ≡ n = rw (x .n-is) (count-all n (λ v. isReading (startOf (recordOf g (event ∷ s) 0) v))
-              (λ v l. ap isReading (start-found g small valid-now 0 v (until-now .done (start-heard (omega arith) l) (omega arith)) (closed-took g adjusts valid-now 0 ∙ not-yet until-now 9 0 (omega arith)) .reading-is))) in
+              (λ v l. ap isReading (start-found g small valid-now 0 v (until-now .done (start-heard (omega arith) l) (omega arith)) (adjust-open valid-now 0 (omega arith) vote-open) .reading-is))) in
               let f-is = x .f-is in
               omega arith
 
@@ -281,20 +316,21 @@ module _ (n f begin spacing : ℕ) (two : 2 ≤ n) (small : n ≤ 16) (few : 2 *
           go NoNumber w = absurd (impossible w)
           go (SomeNumber c) w = (c, w)
 
-      -- it has a candidate and a vote reading of its own, so it has an adjuster
+      -- it has a candidate and a vote reading of its own, so it has an adjuster; one that has closed its adjust phase early has one too
       adjuster-now : a ≡ 7 → (c : ℕ) × (held g adjusts (event ∷ s) 0 ≡ SomeNumber c)
       adjuster-now is =
-          let here = its-slot 7 refl is in
+          cases (isEarly g adjusts s q) (λ e. let x = early-holds g adjusts small (r .valid) q (facts at .head-below) e in still-held adjusts (x .0) (ap (held g adjusts s) (sym head-is) ∙ x .1))
+          (λ e. let here = its-slot 7 refl is in
           let candidate = r .turned votes (took-it u (leads votes (omega arith)) (omega arith)) in
           some-number (held g adjusts (event ∷ s) 0) (subst (λ (x : ℕ). isNumber (held g adjusts (event ∷ s) x) ≡ true) head-is
           (adjuster-from-turn g event t (r .valid) (candidate .0) (ap (held g votes s) head-is ∙ candidate .1)
-          (subst (λ (x : ℕ). isReading (voteOf (recordOf g s x) x) ≡ true) (sym head-is) (r .own-vote (candidate .0) (candidate .1))) is))
+          (subst (λ (x : ℕ). isReading (voteOf (recordOf g s x) x) ≡ true) (sym head-is) (r .own-vote (candidate .0) (candidate .1))) (turn-at g event t is e))))
 
     turned-now : (k : Kind) → took (turning k) 0 (event ∷ s) ≡ true → (c : ℕ) × (held g k (event ∷ s) 0 ≡ SomeNumber c)
     turned-now k h =
         or-cases (takes (turning k) 0 event) (took (turning k) 0 s) h
         (λ w. here k h (eqb-true q 0 (and-left (eqb q 0) _ w)) (eqb-true a (turning k) (and-right (eqb q 0) _ w)))
-        (λ w. let c = r .turned k w in let b = falls g k t (r .valid) 0 (c .0) (record { choice = c .0; holds = c .1; low = omega arith }) in (b .choice, b .holds))
+        (λ w. let c = r .turned k w in still-held k (c .0) (c .1))
       where
         here : (k : Kind) → took (turning k) 0 (event ∷ s) ≡ true → q ≡ 0 → a ≡ turning k → (c : ℕ) × (held g k (event ∷ s) 0 ≡ SomeNumber c)
         here votes h z is = candidate-now z is h
@@ -302,20 +338,15 @@ module _ (n f begin spacing : ℕ) (two : 2 ≤ n) (small : n ≤ 16) (few : 2 *
 
     -- HEAD 0'S OWN VOTE READING
 
-    adjust-open : recordOf g (event ∷ s) q .vote .closed ≡ false → recordOf g (event ∷ s) q .adjust .closed ≡ false
-    adjust-open o =
-        cases (recordOf g (event ∷ s) q .adjust .closed)
-        (λ w. absurd-bool (run-in-range fit valid-now q (facts at .head-below) .marks .adjusting (or-second (recordOf g (event ∷ s) q .adjust .turn) _ w)) o) (λ w. w)
-
     after-confirmed : (c : ℕ) → held g votes (event ∷ s) q ≡ SomeNumber c → 2 * n ≤ i
     after-confirmed c h =
         cases (ltb i (2 * n)) (λ y. let lt = ltb-true i (2 * n) y in absurd-bool (candidate-confirmed g small fit valid-now q c h) (not-yet until-now 3 c (omega arith))) (ltb-false i (2 * n))
 
-    start-known : (c : ℕ) → held g votes (event ∷ s) q ≡ SomeNumber c → recordOf g (event ∷ s) q .vote .closed ≡ false → isReading (startOf (recordOf g (event ∷ s) q) c) ≡ true
+    start-known : (c : ℕ) → held g votes (event ∷ s) q ≡ SomeNumber c → recordOf g s q .vote .closed ≡ false → isReading (startOf (recordOf g (event ∷ s) q) c) ≡ true
     start-known c h o =
         let z = held-0 g votes valid-now (plain-now votes) q c h in
         let l = after-confirmed c h in
-        ap isReading (start-found g small valid-now q c (until-now .done (start-heard (facts at .head-below) (omega arith)) (omega arith)) (adjust-open o) .reading-is)
+        ap isReading (start-after g small t (r .valid) q c (until-now .done (start-heard (facts at .head-below) (omega arith)) (omega arith)) (adjust-open (r .valid) q (facts at .head-below) o) .reading-is)
 
     own-at : q ≡ 0 → OwnReading g s event → (c : ℕ) → held g votes (event ∷ s) q ≡ SomeNumber c → isReading (voteOf (recordOf g (event ∷ s) q) q) ≡ true
     own-at z (same-reading hs vs) c h =

@@ -16,7 +16,7 @@ use Rattle.protocol.specs.Types.{OptNumber, NoNumber, SomeNumber, Settin
 use Rattle.protocol.specs.Words.{isTime, headsFit, firstFieldsFit, isCorrect, settingAt, entryCount, entryAt, entryFitsAt}
 use Rattle.protocol.specs.Record.{Kind, votes, adjusts, numberOr0}
 use Rattle.protocol.specs.Run.{Event, History, recordOf, stepEntry, ran, runOf, afterVerdict, runSheet}
-use Rattle.protocol.specs.Premises.{each, before, correctCloses, votesReached, adjustsReached, premise5, premise7, firstBroken, judgeRun, judge}
+use Rattle.protocol.specs.Premises.{closing, each, before, correctCloses, votesReached, adjustsReached, premise5, premise7, firstBroken, judgeRun, judge}
 use Rattle.protocol.specs.Claim.{CorrectHead, endingOf}
 use Rattle.protocol.specs.Recorder.{entryIn, entryInWidth, entryInRange, Spells, writeIf}
 use Rattle.protocol.specs.Draft.{draftEntry, draftEntries, draftSetting, draftSheet, lastSlotTime, draftRoom, draftVerdict, draft, EndsPlain, PlainRound, Drafted, slotTime}
@@ -144,17 +144,25 @@ module _ (n f first spacing : ℕ) (two : 2 ≤ n) (small : n ≤ 16) (few : 2 *
   unfolding each
   run-of t one = by-run n f first spacing two small few in-range (λ s. each t s ≡ true) refl (λ a q p i s at u r x. and-both (one a q p i s at u r) x)
 
+  abbrev drafted-event : (a q p i : ℕ) → History → Event
+  drafted-event a q p i s = eventOf g s (draftEntry (slotTime first spacing i) a q p)
+
+  closes-at : (k : Kind) (a q p i : ℕ) (s : History) → correctCloses g k (drafted-event a q p i s) ≡ true → a ≡ closing k
+  closes-at k a q p i s w = eqb-true a (closing k) (and-right (isCorrect g q) _ (and-left (isCorrect g q && eqb a (closing k)) _ w))
+
   premise-5 : premise5 g h ≡ true
   unfolding premise5
   premise-5 =
       at-first votes (votesReached g) (run-of (λ e s. correctCloses g votes e ⇒ votesReached g s)
-      (λ a q p i s at u r. implies (isCorrect g q && eqb a 6) (votesReached g s) (λ w. votes-reached n f first spacing two at u (r .plain votes .one) (eqb-true a 6 (and-right (isCorrect g q) _ w)))) .1)
+      (λ a q p i s at u r. implies (correctCloses g votes (drafted-event a q p i s)) (votesReached g s)
+      (λ w. votes-reached n f first spacing two at u (r .plain votes .one) (closes-at votes a q p i s w))) .1)
 
   premise-7 : premise7 g h ≡ true
   unfolding premise7
   premise-7 =
       at-first adjusts (adjustsReached g) (run-of (λ e s. correctCloses g adjusts e ⇒ adjustsReached g s)
-      (λ a q p i s at u r. implies (isCorrect g q && eqb a 9) (adjustsReached g s) (λ w. adjusts-reached n f first spacing two at u (r .plain adjusts .one) (eqb-true a 9 (and-right (isCorrect g q) _ w)))) .1)
+      (λ a q p i s at u r. implies (correctCloses g adjusts (drafted-event a q p i s)) (adjustsReached g s)
+      (λ w. adjusts-reached n f first spacing two at u (r .plain adjusts .one) (closes-at adjusts a q p i s w))) .1)
 
   -- THE WHOLE
 

@@ -1,6 +1,7 @@
 -- An action's effect in two parts: what the record keeps of it, and what the head then says. Every later fact about a
 -- step is a fact about these two, so the ten actions are gone through here and seldom elsewhere.
--- Main results: `effect-split`, `phase-after`, `named-after`, `allowed`.
+-- What document 02, No. 4, adds to a step, the test at its end, changes only the marks of closing.
+-- Main results: `effect-split`, `phase-after`, `named-after`, `allowed`, `act-split`, `answer-phase`, `taken-as`.
 use mathlib.Core.Path.{_≡_, refl, sym, _∙_, ap, subst}
 use mathlib.Core.Bool.{Bool, true, false, cond, not, _&&_, _||_}
 use mathlib.Core.List.{List, [], _∷_}
@@ -12,11 +13,12 @@ use lib.Seq.{getD-set-same, getD-set-other}
 use borrow.Author.Tests.{eqb-true, eqb-false}
 use Rattle.protocol.specs.Types.{Reading, OptReading, SomeReading, OptNumber, NoNumber, SomeNumber, Sender, Phase, HeadRecord, Stepped, Frame, NoFrame, Start, Vote, Adjust}
 use Rattle.protocol.specs.Types.{Action, Look, StartSent, StartDelivered, StartConfirmed, VoteTurn, VoteDelivered, VoteClose, AdjustTurn, AdjustDelivered, AdjustClose}
+use Rattle.protocol.specs.Words.{hasSender}
 use Rattle.protocol.specs.Record.{isNumber, reading, noSender, keptOf, startOf, voteOf}
 use Rattle.protocol.specs.Median.{median}
-use Rattle.protocol.specs.Step.{choose, withStart, withVoteReading, withVoted, withAdjusted, withLast, accepted, silent, vote, adjust, mayLead, lead, voteReadings, mayAdjust, propose, isAbove, outranks, delivered, effect, isClosed}
+use Rattle.protocol.specs.Step.{choose, earlyIf, withStart, withVoteReading, withVoted, withAdjusted, withCandidate, withAdjuster, withLast, accepted, silent, vote, adjust, mayLead, lead, voteReadings, mayAdjust, propose, isPassedOver, outranks, delivered, effect, isClosed, sameNumber, allSpoken, isUnderWay, mayClose, closeEarly, concluded, isTested, act, takenAs}
 use Rattle.protocol.specs.Run.{isDeliveredBy, carriedReading}
-pub use Rattle.protocol.specs.Record.{Kind, votes, adjusts, phaseOf}
+pub use Rattle.protocol.specs.Record.{Kind, votes, adjusts, phaseOf, latestOf}
 pub use Rattle.protocol.specs.Step.{number}
 pub use Rattle.protocol.specs.Premises.{delivery, closing}
 use Rattle.protocol.proofs.Tests.{absurd-bool, cond-elim, not-true, and-left, and-right, or-left, or-right}
@@ -25,6 +27,25 @@ use Rattle.protocol.proofs.Tests.{absurd-bool, cond-elim, not-true, and
 abbrev pub takenOf : Kind → Sender → OptNumber
 takenOf votes k = k .voted
 takenOf adjusts k = k .adjusted
+
+-- an action that delivers nothing is known by its number
+abbrev pub timedAction : ℕ → Action
+timedAction i = getD (Look ∷ StartSent ∷ Look ∷ StartConfirmed ∷ VoteTurn ∷ Look ∷ VoteClose ∷ AdjustTurn ∷ Look ∷ AdjustClose ∷ []) i Look
+
+timed-action : (a : Action) → hasSender (number a) ≡ false → a ≡ timedAction (number a)
+timed-action Look e = refl
+timed-action StartSent e = refl
+timed-action (StartDelivered p) e = absurd-bool refl e
+timed-action StartConfirmed e = refl
+timed-action VoteTurn e = refl
+timed-action (VoteDelivered p k c x) e = absurd-bool refl e
+timed-action VoteClose e = refl
+timed-action AdjustTurn e = refl
+timed-action (AdjustDelivered p k c x) e = absurd-bool refl e
+timed-action AdjustClose e = refl
+
+pub is-timed : (a : Action) (i : ℕ) → hasSender i ≡ false → number a ≡ i → a ≡ timedAction i
+is-timed a i e n = timed-action a (ap hasSender n ∙ e) ∙ ap timedAction n
 
 -- the frame that an action delivers, with its sender
 pub record Delivery : Type 0 where
@@ -81,7 +102,7 @@ abbrev pub withSenders : HeadRecord → List Sender → HeadRecord
 withSenders r l = record { n = r .n; f = r .f; own = r .own; last = r .last; started = r .started; confirmed = r .confirmed; vote = r .vote; adjust = r .adjust; adjustment = r .adjustment; senders = l }
 
 abbrev pub passedOver : Kind → HeadRecord → ℕ → ℕ → Bool
-passedOver k r p j = phaseOf k r .closed || not (isAbove j (takenOf k (keptOf r p)))
+passedOver k r p j = isPassedOver (phaseOf k r) (takenOf k (keptOf r p)) j
 
 -- a delivery that has no effect, and what is kept by its sender after one that has
 abbrev pub ignored : HeadRecord → ℕ → Frame → Bool
@@ -93,14 +114,14 @@ ignored r p (Adjust j c x) = passedOver adjusts r p j
 abbrev pub keptAfter : HeadRecord → ℕ → Frame → Sender
 keptAfter r p NoFrame = keptOf r p
 keptAfter r p Start = withStart (keptOf r p) (SomeReading (r .last))
-keptAfter r p (Vote j c x) = withVoted (withVoteReading (keptOf r p) x) j
-keptAfter r p (Adjust j c x) = withAdjusted (keptOf r p) j
+keptAfter r p (Vote j c x) = withCandidate (withVoted (withVoteReading (keptOf r p) x) j) c
+keptAfter r p (Adjust j c x) = withAdjuster (withAdjusted (keptOf r p) j) c
 
 abbrev pub sendersAfter : HeadRecord → ℕ → Frame → List Sender
 sendersAfter r p x = cond (ignored r p x) (r .senders) (set (r .senders) p (keptAfter r p x))
 
 abbrev pub phaseMarked : ℕ → ℕ → ℕ → Phase → Phase
-phaseMarked turn close a p = record { turn = eqb a turn || p .turn; closed = eqb a close || p .closed; choice = p .choice; sent = p .sent }
+phaseMarked turn close a p = record { turn = eqb a turn || p .turn; closed = eqb a close || p .closed; early = p .early; choice = p .choice; sent = p .sent }
 
 abbrev pub prepared : HeadRecord → Action → HeadRecord
 prepared r a =
@@ -208,10 +229,6 @@ pub prepared-closed : (k : Kind) (r : HeadRecord) (a : Action) → phaseOf k (pr
 prepared-closed votes r a = refl
 prepared-closed adjusts r a = refl
 
-no-close : (k : Kind) → eqb (delivery k) (closing k) ≡ false
-no-close votes = refl
-no-close adjusts = refl
-
 pub phase-last : (k : Kind) (r : HeadRecord) (x : Reading) → phaseOf k (withLast r x) ≡ phaseOf k r
 phase-last votes r x = refl
 phase-last adjusts r x = refl
@@ -248,7 +265,6 @@ pub data Why (k : Kind) (r : HeadRecord) (a : Action) (c : ℕ) : Type 0 where
 
 pub record Naming (k : Kind) (r : HeadRecord) (a : Action) (c : ℕ) : Type 0 where
   pub is-open : phaseOf k r .closed ≡ false
-  pub stays-open : phaseOf k (prepared r a) .closed ≡ false
   pub higher : outranks c (phaseOf k r .choice) ≡ true
   pub why : Why k r a c
 
@@ -269,9 +285,9 @@ no-number (SomeNumber v) e = absurd-bool refl e
 
 -- the rule after 2 and 4, at the record that the action prepared
 allowed-lead : (r m : HeadRecord) (a : Action) → m .vote .closed ≡ r .vote .closed → m .vote .choice ≡ r .vote .choice → m .vote .turn ≡ prepared r a .vote .turn
-    → m .vote .closed ≡ prepared r a .vote .closed → Allowed r a (cond (mayLead m) (voting (r .own)) nothing)
+    → Allowed r a (cond (mayLead m) (voting (r .own)) nothing)
 unfolding mayLead
-allowed-lead r m a cl ch tu ca =
+allowed-lead r m a cl ch tu =
     cond-elim (Allowed r a) (mayLead m)
     (λ t. let t2 = and-right (m .vote .turn) _ t in
     let t3 = and-right (not (m .vote .closed)) _ t2 in
@@ -279,7 +295,6 @@ allowed-lead r m a cl ch tu ca =
     let unclosed = not-true (and-left (not (m .vote .closed)) _ t2) in
     sends-vote (record {
       is-open = sym cl ∙ unclosed;
-      stays-open = sym ca ∙ unclosed;
       higher = rw none refl;
       why = itself refl none (sym tu ∙ and-left (m .vote .turn) _ t);
     }))
@@ -292,7 +307,7 @@ allowed-delivery k r a p j c x nu na say =
     cond-elim (Allowed r a) (passedOver k r p j) (λ _. sends-nothing)
     (λ t. cond-elim (Allowed r a) (outranks c (phaseOf k r .choice))
     (λ u. let unclosed = or-left (phaseOf k r .closed) _ t in
-    say (record { is-open = unclosed; stays-open = prepared-closed k r a ∙ rw (nu, no-close k, unclosed) refl; higher = u; why = told nu na })) (λ _. sends-nothing))
+    say (record { is-open = unclosed; higher = u; why = told nu na })) (λ _. sends-nothing))
 
 pub allowed : (r : HeadRecord) (a : Action) → isClosed r a ≡ false → Allowed r a (sendingOf r a)
 unfolding isClosed mayAdjust
@@ -300,16 +315,16 @@ allowed r Look e = sends-nothing
 allowed r StartSent e = sends-start refl
 allowed r (StartDelivered p) e =
     cond-elim (Allowed r (StartDelivered p)) (r .adjust .closed) (λ _. sends-nothing)
-    (λ _. allowed-lead r (withSenders r (set (r .senders) p (withStart (keptOf r p) (SomeReading (r .last))))) (StartDelivered p) refl refl refl refl)
+    (λ _. allowed-lead r (withSenders r (set (r .senders) p (withStart (keptOf r p) (SomeReading (r .last))))) (StartDelivered p) refl refl refl)
 allowed r StartConfirmed e = sends-nothing
-allowed r VoteTurn e = allowed-lead r (prepared r VoteTurn) VoteTurn refl refl refl refl
+allowed r VoteTurn e = allowed-lead r (prepared r VoteTurn) VoteTurn refl refl refl
 allowed r (VoteDelivered p k c x) e = allowed-delivery votes r (VoteDelivered p k c x) p k c (voting c) refl refl sends-vote
 allowed r VoteClose e = sends-nothing
 allowed r AdjustTurn e =
     cond-elim (Allowed r AdjustTurn) (mayAdjust (prepared r AdjustTurn))
     (λ t. let none : r .adjust .choice ≡ NoNumber = no-number _ (not-true (and-left (not (isNumber (r .adjust .choice))) _ (and-right (isNumber (r .vote .choice)) _ t))) in
     let unclosed = or-right (r .adjust .turn) _ (or-right (not (r .vote .closed)) _ e) in
-    sends-adjust (record { is-open = unclosed; stays-open = unclosed; higher = rw none refl; why = itself refl none refl }) (computed refl refl))
+    sends-adjust (record { is-open = unclosed; higher = rw none refl; why = itself refl none refl }) (computed refl refl))
     (λ _. sends-nothing)
 allowed r (AdjustDelivered p k c x) e = allowed-delivery adjusts r (AdjustDelivered p k c x) p k c (adjusting c x) refl refl (λ y. sends-adjust y (passed-on refl refl))
 allowed r AdjustClose e = sends-nothing
@@ -346,18 +361,29 @@ set-keeps g (x ∷ l) zero (suc q) k e = refl
 set-keeps g (x ∷ l) (suc p) zero k e = refl
 set-keeps g (x ∷ l) (suc p) (suc q) k e = set-keeps g l p q k e
 
--- a sending changes no start reading and no serial taken: nothing of a sender but the head's own vote reading
-pub send-keeps : {X : Type 0} (g : Sender → X) → ((k : Sender) (x : OptReading) → g (withVoteReading k x) ≡ g k)
-    → (x : Sending) (m : HeadRecord) (q : ℕ) → g (keptOf (send x m .after) q) ≡ g (keptOf m q)
+-- what holds of every place, and of the element written, holds of every place after the write
+pub set-holds : (P : ℕ → Sender → Type 0) (l : List Sender) (p : ℕ) (s : Sender) → P p s → ((q : ℕ) → P q (getD l q noSender)) → (q : ℕ) → P q (getD (set l p s) q noSender)
+set-holds P [] p s h k q = k q
+set-holds P (x ∷ l) zero s h k zero = h
+set-holds P (x ∷ l) zero s h k (suc q) = k (suc q)
+set-holds P (x ∷ l) (suc p) s h k zero = k zero
+set-holds P (x ∷ l) (suc p) s h k (suc q) = set-holds (λ j. P (suc j)) l p s h (λ j. k (suc j)) q
+
+-- a part of what is kept by a sender that no sending changes: start reading and serials taken
+abbrev pub Unsaid : {X : Type 0} → (Sender → X) → Type 0
+Unsaid g = (k : Sender) (x : OptReading) (c a : OptNumber) → g (record { start = k .start; vote = x; voted = k .voted; adjusted = k .adjusted; candidate = c; adjuster = a }) ≡ g k
+
+-- a sending changes nothing of a sender but the head's own vote reading and its own latest vote or adjust
+pub send-keeps : {X : Type 0} (g : Sender → X) → Unsaid g → (x : Sending) (m : HeadRecord) (q : ℕ) → g (keptOf (send x m .after) q) ≡ g (keptOf m q)
 unfolding vote adjust
 send-keeps g e nothing m q = refl
 send-keeps g e start m q = refl
-send-keeps g e (voting c) m q = set-keeps g (m .senders) (m .own) q _ (e _ _)
-send-keeps g e (adjusting c x) m q = refl
+send-keeps g e (voting c) m q = set-keeps g (m .senders) (m .own) q _ (e _ _ _ _)
+send-keeps g e (adjusting c x) m q = set-keeps g (m .senders) (m .own) q _ (e (keptOf m (m .own)) _ _ _)
 
--- number of heads, own number, last reading, and the marks, in the order of the actions that set them
+-- number of heads, own number, last reading, and the marks that only an action's entry sets, in the order of the actions
 abbrev pub marksOf : HeadRecord → List Bool
-marksOf r = r .started ∷ r .confirmed ∷ r .vote .turn ∷ r .vote .closed ∷ r .adjust .turn ∷ r .adjust .closed ∷ []
+marksOf r = r .started ∷ r .confirmed ∷ r .vote .turn ∷ r .adjust .turn ∷ []
 
 pub record Same (r m : HeadRecord) : Type 0 where
   pub n : m .n ≡ r .n
@@ -371,7 +397,7 @@ unfolding vote adjust
 send-same nothing m = record { n = refl; f = refl; own = refl; last = refl; size = refl }
 send-same start m = record { n = refl; f = refl; own = refl; last = refl; size = refl }
 send-same (voting c) m = record { n = refl; f = refl; own = refl; last = refl; size = length-set (m .senders) (m .own) _ }
-send-same (adjusting c x) m = record { n = refl; f = refl; own = refl; last = refl; size = refl }
+send-same (adjusting c x) m = record { n = refl; f = refl; own = refl; last = refl; size = length-set (m .senders) (m .own) _ }
 
 pub send-marks : (x : Sending) (m : HeadRecord) → marksOf (send x m .after) ≡ marksOf m
 unfolding vote adjust
@@ -432,6 +458,144 @@ closed-last r x AdjustTurn = refl
 closed-last r x (AdjustDelivered p k c y) = refl
 closed-last r x AdjustClose = refl
 
+-- CLOSING WHEN ALL HAVE SPOKEN
+
+-- whether the test at the end of a step closes the phase
+abbrev pub earlyNow : Kind → Bool → HeadRecord → Bool
+earlyNow votes tested r = tested && mayClose votes r
+earlyNow adjusts tested r = tested && mayClose adjusts (closeEarly votes tested r)
+
+-- it changes the marks of closing alone
+concluded-phase : (k : Kind) (tested : Bool) (t : Stepped) → phaseOf k (concluded tested t .after) ≡ earlyIf (earlyNow k tested (t .after)) (phaseOf k (t .after))
+concluded-phase votes tested t = refl
+concluded-phase adjusts tested t = refl
+
+-- a step in three parts
+abbrev pub answer : HeadRecord → Action → Stepped
+answer r a = concluded (isTested r a) (send (sendingOf r a) (prepared r a))
+
+pub act-split : (r : HeadRecord) (a : Action) → act r a ≡ answer r a
+unfolding act
+act-split r a = ap (concluded (isTested r a)) (effect-split r a)
+
+pub act-accepted : (r : HeadRecord) (a : Action) → accepted (act r a .after) (act r a .frame) ≡ act r a
+unfolding act
+act-accepted r a = ap (concluded (isTested r a)) (effect-accepted r a)
+
+-- whether the step closes the phase early, and the phase after it
+abbrev pub closesEarly : Kind → HeadRecord → Action → Bool
+closesEarly k r a = earlyNow k (isTested r a) (send (sendingOf r a) (prepared r a) .after)
+
+pub answer-phase : (k : Kind) (r : HeadRecord) (a : Action) → phaseOf k (answer r a .after) ≡ earlyIf (closesEarly k r a) (chosenBy (namedIn k (sendingOf r a)) (phaseOf k (prepared r a)))
+answer-phase k r a = concluded-phase k (isTested r a) (send (sendingOf r a) (prepared r a)) ∙ ap (earlyIf (closesEarly k r a)) (phase-after k (sendingOf r a) (prepared r a))
+
+pub answer-closed : (k : Kind) (r : HeadRecord) (a : Action)
+    → phaseOf k (answer r a .after) .closed ≡ (closesEarly k r a || (eqb (number a) (closing k) || phaseOf k r .closed))
+answer-closed k r a =
+    ap (λ (p : Phase). p .closed) (answer-phase k r a)
+    ∙ ap (λ (b : Bool). closesEarly k r a || b) (chosen-closed (namedIn k (sendingOf r a)) _ ∙ prepared-closed k r a)
+
+pub answer-early : (k : Kind) (r : HeadRecord) (a : Action) → phaseOf k (answer r a .after) .early ≡ (closesEarly k r a || phaseOf k r .early)
+answer-early k r a =
+    ap (λ (p : Phase). p .early) (answer-phase k r a)
+    ∙ ap (λ (b : Bool). closesEarly k r a || b) (chosen-early (namedIn k (sendingOf r a)) _ ∙ prepared-early k)
+  where
+    chosen-early : (m : OptNumber) (p : Phase) → chosenBy m p .early ≡ p .early
+    chosen-early NoNumber p = refl
+    chosen-early (SomeNumber c) p = refl
+
+    prepared-early : (k : Kind) → phaseOf k (prepared r a) .early ≡ phaseOf k r .early
+    prepared-early votes = refl
+    prepared-early adjusts = refl
+
+-- in a phase that the test closes all have spoken
+pub early-spoken : (k : Kind) (tested : Bool) (t : Stepped) → earlyNow k tested (t .after) ≡ true → allSpoken k (concluded tested t .after) ≡ true
+unfolding mayClose
+early-spoken votes tested t e = and-right (isUnderWay votes (t .after)) _ (and-right tested _ e)
+early-spoken adjusts tested t e = and-right (isUnderWay adjusts (closeEarly votes tested (t .after))) _ (and-right tested _ e)
+
+pub both-name : (m c : OptNumber) → sameNumber m c ≡ true → (v : ℕ) × (m ≡ SomeNumber v) × (c ≡ SomeNumber v)
+both-name NoNumber c e = absurd-bool e refl
+both-name (SomeNumber v) NoNumber e = absurd-bool e refl
+both-name (SomeNumber v) (SomeNumber w) e = (v, refl, ap (λ (i : ℕ). SomeNumber i) (sym (eqb-true v w e)))
+
+-- an action is taken as itself, or as a look after the early close of its phase
+pub data TakenAs (r : HeadRecord) : Action → Action → Type 0 where
+  unspent : {a : Action} → TakenAs r a a
+  vote-close-spent : r .vote .early ≡ true → TakenAs r VoteClose Look
+  adjust-turn-spent : r .adjust .early ≡ true → TakenAs r AdjustTurn Look
+  adjust-close-spent : r .adjust .early ≡ true → TakenAs r AdjustClose Look
+
+pub taken-as : (r : HeadRecord) (a : Action) → TakenAs r a (takenAs r a)
+unfolding takenAs
+taken-as r Look = unspent
+taken-as r StartSent = unspent
+taken-as r (StartDelivered p) = unspent
+taken-as r StartConfirmed = unspent
+taken-as r VoteTurn = unspent
+taken-as r (VoteDelivered p k c x) = unspent
+taken-as r VoteClose = cond-elim (TakenAs r VoteClose) (r .vote .early) vote-close-spent (λ _. unspent)
+taken-as r AdjustTurn = cond-elim (TakenAs r AdjustTurn) (r .adjust .early) adjust-turn-spent (λ _. unspent)
+taken-as r (AdjustDelivered p k c x) = unspent
+taken-as r AdjustClose = cond-elim (TakenAs r AdjustClose) (r .adjust .early) adjust-close-spent (λ _. unspent)
+
+pub taken-turn : {r : HeadRecord} {b : Action} → TakenAs r AdjustTurn b → r .adjust .early ≡ false → b ≡ AdjustTurn
+taken-turn unspent e = refl
+taken-turn (adjust-turn-spent u) e = absurd-bool u e
+
+-- it delivers what it was asked to deliver, and has the number that was asked unless that is 0, 6, 7 or 9
+pub taken-delivery : {r : HeadRecord} {a b : Action} → TakenAs r a b → deliveryIn b ≡ deliveryIn a
+taken-delivery unspent = refl
+taken-delivery (vote-close-spent u) = refl
+taken-delivery (adjust-turn-spent u) = refl
+taken-delivery (adjust-close-spent u) = refl
+
+abbrev pub Unspent : ℕ → Type 0
+Unspent d = (eqb 0 d || (eqb 6 d || (eqb 7 d || eqb 9 d))) ≡ false
+
+pub taken-number : {r : HeadRecord} {a b : Action} (d : ℕ) → Unspent d → TakenAs r a b → eqb (number b) d ≡ eqb (number a) d
+taken-number d e unspent = refl
+taken-number d e (vote-close-spent u) = let e6 = or-right (eqb 0 d) _ e in or-left (eqb 0 d) _ e ∙ sym (or-left (eqb 6 d) _ e6)
+taken-number d e (adjust-turn-spent u) = let e7 = or-right (eqb 6 d) _ (or-right (eqb 0 d) _ e) in or-left (eqb 0 d) _ e ∙ sym (or-left (eqb 7 d) _ e7)
+taken-number d e (adjust-close-spent u) = let e9 = or-right (eqb 7 d) _ (or-right (eqb 6 d) _ (or-right (eqb 0 d) _ e)) in or-left (eqb 0 d) _ e ∙ sym e9
+
+pub delivery-unspent : (k : Kind) → Unspent (delivery k)
+delivery-unspent votes = refl
+delivery-unspent adjusts = refl
+
+-- a turn of the adjust phase that is passed over finds it closed early
+pub taken-adjust-turn : {r : HeadRecord} {a b : Action} → TakenAs r a b → (eqb (number b) 7 || r .adjust .early) ≡ (eqb (number a) 7 || r .adjust .early)
+taken-adjust-turn unspent = refl
+taken-adjust-turn (vote-close-spent u) = refl
+taken-adjust-turn (adjust-turn-spent u) = u
+taken-adjust-turn (adjust-close-spent u) = refl
+
+pub asked-adjust-turn : {r : HeadRecord} {a b : Action} → TakenAs r a b → eqb (number b) 7 ≡ true → eqb (number a) 7 ≡ true
+asked-adjust-turn unspent e = e
+asked-adjust-turn (vote-close-spent u) e = absurd-bool e refl
+asked-adjust-turn (adjust-turn-spent u) e = refl
+asked-adjust-turn (adjust-close-spent u) e = absurd-bool e refl
+
+-- a close that is passed over finds its phase closed early
+pub taken-close : (k : Kind) {r : HeadRecord} {a b : Action} → TakenAs r a b → (eqb (number b) (closing k) || phaseOf k r .early) ≡ (eqb (number a) (closing k) || phaseOf k r .early)
+taken-close k unspent = refl
+taken-close votes (vote-close-spent u) = u
+taken-close adjusts (vote-close-spent u) = refl
+taken-close votes (adjust-turn-spent u) = refl
+taken-close adjusts (adjust-turn-spent u) = refl
+taken-close votes (adjust-close-spent u) = refl
+taken-close adjusts (adjust-close-spent u) = u
+
+-- a close that is taken finds the phase open, and the test at its end leaves that phase alone
+pub close-open : (k : Kind) (r : HeadRecord) → isClosed r (timedAction (closing k)) ≡ false → (phaseOf k r .closed ≡ false) × (closesEarly k r (timedAction (closing k)) ≡ false)
+unfolding isClosed isTested mayClose
+close-open votes r o = (o, refl)
+close-open adjusts r o = (or-right (not (r .vote .closed)) _ o, never (closeEarly votes true (prepared r AdjustClose) .vote .closed) _)
+  where
+    never : (b c : Bool) → ((b && false) && c) ≡ false
+    never true c = refl
+    never false c = refl
+
 -- WHAT IS TAKEN OF A DELIVERED FRAME
 
 -- the serial last taken from the sender, after a frame that is not ignored
@@ -445,6 +609,34 @@ taken-after adjusts r p NoFrame = refl
 taken-after adjusts r p Start = refl
 taken-after adjusts r p (Vote j c x) = refl
 taken-after adjusts r p (Adjust j c x) = refl
+
+-- whom the sender's latest frame names, after a frame that is not ignored; and after a sending
+pub latest-after : (k : Kind) (r : HeadRecord) (p : ℕ) (x : Frame)
+    → latestOf k (keptAfter r p x) ≡ cond (eqb (deliveredBy x) (delivery k)) (named x) (latestOf k (keptOf r p))
+latest-after votes r p NoFrame = refl
+latest-after votes r p Start = refl
+latest-after votes r p (Vote j c x) = refl
+latest-after votes r p (Adjust j c x) = refl
+latest-after adjusts r p NoFrame = refl
+latest-after adjusts r p Start = refl
+latest-after adjusts r p (Vote j c x) = refl
+latest-after adjusts r p (Adjust j c x) = refl
+
+pub latest-said : (k : Kind) (P : OptNumber → Type 0) (x : Sending) (m : HeadRecord) (p : ℕ) → P (latestOf k (keptOf m p))
+    → ((c : ℕ) → namedIn k x ≡ SomeNumber c → p ≡ m .own → P (SomeNumber c)) → P (latestOf k (keptOf (send x m .after) p))
+unfolding vote adjust
+latest-said k P nothing m p h say = h
+latest-said k P start m p h say = h
+latest-said votes P (voting c) m p h say = said (m .senders) (m .own) p _ (say c refl) h
+  where
+    said : (l : List Sender) (o p : ℕ) (z : Sender) → (p ≡ o → P (z .candidate)) → P (getD l p noSender .candidate) → P (getD (set l o z) p noSender .candidate)
+    said l o p z new old = set-holds (λ q y. q ≡ p → P (y .candidate)) l o z (λ e. new (sym e)) (λ q e. subst (λ (i : ℕ). P (getD l i noSender .candidate)) (sym e) old) p refl
+latest-said adjusts P (voting c) m p h say = subst P (sym (set-keeps (λ z. z .adjuster) (m .senders) (m .own) p _ refl)) h
+latest-said votes P (adjusting c x) m p h say = subst P (sym (set-keeps (λ z. z .candidate) (m .senders) (m .own) p _ refl)) h
+latest-said adjusts P (adjusting c x) m p h say = said (m .senders) (m .own) p _ (say c refl) h
+  where
+    said : (l : List Sender) (o p : ℕ) (z : Sender) → (p ≡ o → P (z .adjuster)) → P (getD l p noSender .adjuster) → P (getD (set l o z) p noSender .adjuster)
+    said l o p z new old = set-holds (λ q y. q ≡ p → P (y .adjuster)) l o z (λ e. new (sym e)) (λ q e. subst (λ (i : ℕ). P (getD l i noSender .adjuster)) (sym e) old) p refl
 
 pub ignored-frame : (k : Kind) (r : HeadRecord) (p : ℕ) (x : Frame) → eqb (deliveredBy x) (delivery k) ≡ true → ignored r p x ≡ passedOver k r p (serialOf x)
 ignored-frame votes r p NoFrame e = absurd-bool e refl
@@ -489,7 +681,7 @@ own-kept r StartConfirmed e = refl
 own-kept r VoteTurn e = refl
 own-kept r (VoteDelivered p k c x) e = go (passedOver votes r p k)
   where
-    go : (b : Bool) → getD (cond b (r .senders) (set (r .senders) p (withVoted (withVoteReading (keptOf r p) x) k))) (r .own) noSender .vote ≡ voteOf r (r .own)
+    go : (b : Bool) → getD (cond b (r .senders) (set (r .senders) p (withCandidate (withVoted (withVoteReading (keptOf r p) x) k) c))) (r .own) noSender .vote ≡ voteOf r (r .own)
     go true = refl
     go false = ap (λ (z : Sender). z .vote) (getD-set-other (r .senders) p (r .own) _ noSender (λ d. eqb-false p (r .own) (or-left (eqb p (r .own)) false e) (sym d)))
 own-kept r VoteClose e = refl
@@ -503,7 +695,7 @@ unfolding adjust
 own-unsent nothing m e = refl
 own-unsent start m e = refl
 own-unsent (voting c) m e = none-is-some (sym e)
-own-unsent (adjusting c x) m e = refl
+own-unsent (adjusting c x) m e = set-keeps (λ z. z .vote) (m .senders) (m .own) (m .own) _ refl
 
 pub own-sent : (x : Sending) (m : HeadRecord) (c : ℕ) → m .own < length (m .senders) → namedIn votes x ≡ SomeNumber c → voteOf (send x m .after) (m .own) ≡ startOf (send x m .after) c
 unfolding vote

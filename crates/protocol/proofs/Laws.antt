@@ -1,7 +1,8 @@
 -- What document 01 says of a step, of outcomes and of drift where the marked cases would not show a slip: rank, serials,
 -- reading 0, a repeated start, what a vote carries, "no effect", marks set once, what outcome 2 asks, the last reading and
--- refusals, and drift between any two entries. Each law stands by itself, under the passage that it renders.
-use mathlib.Core.Path.{_≡_, refl, sym, _∙_, ap, ap₂}
+-- refusals, and drift between any two entries; and what document 02, No. 4, says of a step: latest votes and adjusts, when a
+-- phase closes early and what that leaves without effect. Each law stands by itself, under the passage that it renders.
+use mathlib.Core.Path.{_≡_, refl, sym, _∙_, ap, ap₂, subst}
 use mathlib.Core.Bool.{Bool, true, false, cond, not, _&&_, _||_}
 use mathlib.Core.List.{[], _∷_}
 use mathlib.Core.Logic.{_≢_}
@@ -9,22 +10,25 @@ use Prim.Native.Nat.{ℕ, suc, _+_, _-_, _*_, _^_, _≤_, _<_, min}
 use native.Mathlib.Omega.{arith}
 use lib.Dec.{ltb, leb, eqb}
 use lib.IntN.{natAbs, subℕ, _-ℤ_}
-use lib.ListN.{length}
+use lib.ListN.{length, set}
 use lib.Seq.{getD-set-same, getD-set-other}
-use borrow.Author.Tests.{lt-ltb, le-ltb, leb-true, ltb-true, ltb-false, eq-eqb, ne-eqb}
-use Rattle.protocol.specs.Base.{_⇒_}
+use borrow.Author.Tests.{lt-ltb, le-ltb, leb-true, ltb-true, ltb-false, eqb-true, eq-eqb, ne-eqb}
+use Rattle.protocol.specs.Base.{_⇒_, any}
 use Rattle.protocol.specs.Types.{Reading, OptReading, NoReading, SomeReading, OptNumber, NoNumber, SomeNumber, Sender, Phase, HeadRecord, Setting, Entry}
 use Rattle.protocol.specs.Types.{Stepped, Vote, Accepted, Refused, Cause, Input}
-use Rattle.protocol.specs.Types.{Action, StartSent, StartDelivered, StartConfirmed, VoteTurn, VoteDelivered, VoteClose, AdjustTurn, AdjustDelivered, AdjustClose}
+use Rattle.protocol.specs.Types.{Action, Look, StartSent, StartDelivered, StartConfirmed, VoteTurn, VoteDelivered, VoteClose, AdjustTurn, AdjustDelivered, AdjustClose}
 use Rattle.protocol.specs.Words.{isCorrect}
 use Rattle.protocol.specs.Record.{isReading, isNumber, readingOr0, numberOr0, reading, noSender, keptOf, startOf, voteOf, startOfChoice, chosenStart, outcome, recordInRange}
-use Rattle.protocol.specs.Step.{withVoteReading, withVoted, withLast, silent, refused, vote, adjust, startsHeld, mayLead, lead, voteReadings, mayAdjust, propose, isAbove, outranks, delivered, effect, isClosed, takeAction, actionOf, inputFits, step}
-use Rattle.protocol.specs.Run.{Event, History}
+use Rattle.protocol.specs.Step.{withVoteReading, withVoted, withAdjusted, withCandidate, withAdjuster, withLast, silent, refused, vote, adjust, startsHeld, mayLead, lead, voteReadings, mayAdjust, propose, isAbove, isPassedOver, outranks, delivered, effect, isClosed, sameNumber, allSpoken, isUnderWay, mayClose, isTested, act, takenAs, takeAction, actionOf, inputFits, step}
+use Rattle.protocol.specs.Run.{Event, History, recordOf}
 use Rattle.protocol.specs.Results.{ifAdopted, outcomeWord, adjustmentWord, startWord, headWords}
-use Rattle.protocol.specs.Premises.{isSteady, premise2}
-use Rattle.protocol.proofs.Tests.{absurd-bool, cond-elim, not-false, and-left, and-right, or-left, or-right, or-first, or-second, implied, eqb-same, all-in}
+use Rattle.protocol.specs.Premises.{closing, each, isSteady, correctTakes, correctCloses, premise2, premise5, noneBetween, premise6, premise7, premise8}
+use Rattle.protocol.proofs.Tests.{absurd-bool, cases, cond-elim, not-true, not-false, not-is-false, and-left, and-right, and-both, and-false, all-below, below-all, or-left, or-right, or-cases, or-first, or-second, implied, eqb-same, all-in}
 use Rattle.protocol.proofs.Moments.{Earlier, earlier-in, each-at}
-use Rattle.protocol.proofs.Effects.{prepared, sendingOf, effect-split, send-same, set-keeps, effect-accepted}
+use Rattle.protocol.proofs.Effects.{Kind, votes, adjusts, phaseOf, latestOf, prepared, sendingOf, effect-split, send-same, set-keeps, act-accepted, both-name, none-is-some}
+use Rattle.protocol.proofs.Valid.{Valid, Taken}
+use Rattle.protocol.proofs.Ranges.{in-range}
+use Rattle.protocol.proofs.Phases.{close-by-entry}
 use Rattle.protocol.proofs.Signed.{difference-of, difference-sub, difference-abs}
 
 -- serial k is above the last one taken, if any was
@@ -125,6 +129,15 @@ pub own-vote-reading : (c : ℕ) (r : HeadRecord) → r .own < length (r .sender
 unfolding vote
 own-vote-reading c r h = ap (λ (k : Sender). k .vote) (getD-set-same (r .senders) (r .own) _ noSender h)
 
+-- document 02, No. 4, "its own .. latest vote": the one that it sends
+pub own-latest-vote : (c : ℕ) (r : HeadRecord) → r .own < length (r .senders) → keptOf (vote c r .after) (r .own) .candidate ≡ SomeNumber c
+unfolding vote
+own-latest-vote c r h = ap (λ (k : Sender). k .candidate) (getD-set-same (r .senders) (r .own) _ noSender h)
+
+pub own-latest-adjust : (a : ℕ) (x : Reading) (r : HeadRecord) → r .own < length (r .senders) → keptOf (adjust a x r .after) (r .own) .adjuster ≡ SomeNumber a
+unfolding adjust
+own-latest-adjust a x r h = ap (λ (k : Sender). k .adjuster) (getD-set-same (r .senders) (r .own) _ noSender h)
+
 -- "A reading of 0 is a reading": every vote reading held counts in the median, and "none" does not
 pub vote-reading-counts : (r : HeadRecord) (p : ℕ) (x : Reading) → voteOf r p ≡ SomeReading x → voteReadings r (suc p) ≡ x .0 ∷ voteReadings r p
 unfolding voteReadings
@@ -140,10 +153,10 @@ vote-keeps-others c r p d = getD-set-other (r .senders) (r .own) p _ noSender d
 
 -- a vote is delivered from another head p, with a serial above the last one taken, before the vote close
 module _ (r : HeadRecord) (p k c : ℕ) (x : OptReading) (h : p < length (r .senders)) (d : p ≢ r .own) (o : r .vote .closed ≡ false) (a : Above k (keptOf r p .voted)) where
-  vote-taken : keptOf (effect r (VoteDelivered p k c x) .after) p ≡ withVoted (withVoteReading (keptOf r p) x) k
+  vote-taken : keptOf (effect r (VoteDelivered p k c x) .after) p ≡ withCandidate (withVoted (withVoteReading (keptOf r p) x) k) c
   unfolding effect
   vote-taken =
-      taken-or-adopted (r .vote) (keptOf r p .voted) k c r _ (vote c) (λ (t : Stepped). keptOf (t .after) p ≡ withVoted (withVoteReading (keptOf r p) x) k) o a
+      taken-or-adopted (r .vote) (keptOf r p .voted) k c r _ (vote c) (λ (t : Stepped). keptOf (t .after) p ≡ withCandidate (withVoted (withVoteReading (keptOf r p) x) k) c) o a
       (λ _. vote-keeps-others c _ p d ∙ getD-set-same (r .senders) p _ noSender h) (λ _. getD-set-same (r .senders) p _ noSender h)
 
   -- 5: "the carried reading (or none) becomes the sender's vote reading"
@@ -154,17 +167,28 @@ module _ (r : HeadRecord) (p k c : ℕ) (x : OptReading) (h : p < length (r .sen
       → voteReadings (effect r (VoteDelivered p k c x) .after) (suc p) ≡ y .0 ∷ voteReadings (effect r (VoteDelivered p k c x) .after) p
   carried-reading-counts y e = vote-reading-counts (effect r (VoteDelivered p k c x) .after) p y (vote-reading-taken ∙ e)
 
+  -- document 02, No. 4: it is the "sender's latest vote"
+  pub latest-vote-taken : keptOf (effect r (VoteDelivered p k c x) .after) p .candidate ≡ SomeNumber c
+  latest-vote-taken = ap (λ (s : Sender). s .candidate) vote-taken
+
   -- its serial is then "the last taken from that sender", so a repeat has no effect
   pub vote-serial-taken : keptOf (effect r (VoteDelivered p k c x) .after) p .voted ≡ SomeNumber k
   vote-serial-taken = ap (λ (s : Sender). s .voted) vote-taken
 
-pub adjust-serial-taken : (r : HeadRecord) (p k a : ℕ) (x : Reading) → p < length (r .senders) → r .adjust .closed ≡ false → Above k (keptOf r p .adjusted)
-    → keptOf (effect r (AdjustDelivered p k a x) .after) p .adjusted ≡ SomeNumber k
-unfolding effect adjust
-adjust-serial-taken r p k a x h o b =
-    let stored = ap (λ (s : Sender). s .adjusted) (getD-set-same (r .senders) p _ noSender h) in
-    taken-or-adopted (r .adjust) (keptOf r p .adjusted) k a r _ (adjust a x) (λ (t : Stepped). keptOf (t .after) p .adjusted ≡ SomeNumber k) o b
-    (λ _. stored) (λ _. stored)
+-- 8: "as 5, with adjuster and adjustment"
+module _ (r : HeadRecord) (p k a : ℕ) (x : Reading) (h : p < length (r .senders)) (d : p ≢ r .own) (o : r .adjust .closed ≡ false) (b : Above k (keptOf r p .adjusted)) where
+  adjust-taken : keptOf (effect r (AdjustDelivered p k a x) .after) p ≡ withAdjuster (withAdjusted (keptOf r p) k) a
+  unfolding effect adjust
+  adjust-taken =
+      let stored = getD-set-same (r .senders) p (withAdjuster (withAdjusted (keptOf r p) k) a) noSender h in
+      taken-or-adopted (r .adjust) (keptOf r p .adjusted) k a r _ (adjust a x) (λ (t : Stepped). keptOf (t .after) p ≡ withAdjuster (withAdjusted (keptOf r p) k) a) o b
+      (λ _. getD-set-other (set (r .senders) p _) (r .own) p _ noSender d ∙ stored) (λ _. stored)
+
+  pub latest-adjust-taken : keptOf (effect r (AdjustDelivered p k a x) .after) p .adjuster ≡ SomeNumber a
+  latest-adjust-taken = ap (λ (s : Sender). s .adjuster) adjust-taken
+
+  pub adjust-serial-taken : keptOf (effect r (AdjustDelivered p k a x) .after) p .adjusted ≡ SomeNumber k
+  adjust-serial-taken = ap (λ (s : Sender). s .adjusted) adjust-taken
 
 -- "Closed if sender is h"
 pub own-frame-closed : (r : HeadRecord) (k c : ℕ) (x : OptReading) (y : Reading)
@@ -244,24 +268,181 @@ answers-refused r x c =
       refused-unchanged = λ d e. ap (refused r) (let z : c ≡ d = cc in z);
     }
 
-answers-taken : (r : HeadRecord) (x : Reading) (a : Action) → Answers r x (effect (withLast r x) a)
+answers-taken : (r : HeadRecord) (x : Reading) (a : Action) → Answers r x (act (withLast r x) a)
+unfolding act
 answers-taken r x a =
     record {
       accepted-last-reading = λ e. effect-keeps-last (withLast r x) a;
-      refused-unchanged = λ c e. absurd (let v = ap (λ (t : Stepped). t .verdict) (effect-accepted (withLast r x) a) in let z : _≡_ {A = ℕ} 0 1 = cc in omega arith);
+      refused-unchanged = λ c e. absurd (let v = ap (λ (t : Stepped). t .verdict) (act-accepted (withLast r x) a) in let z : _≡_ {A = ℕ} 0 1 = cc in omega arith);
     }
 
 pub action-answers : (r : HeadRecord) (x : Reading) (sent : Bool) (a : Action) → Answers r x (takeAction r x sent a)
 unfolding takeAction
 action-answers r x sent a =
     cond-elim (Answers r x) (ltb (x .0) (r .last .0)) (λ _. answers-refused r x _)
-    (λ _. cond-elim (Answers r x) (not sent || isClosed r a) (λ _. answers-refused r x _) (λ _. answers-taken r x a))
+    (λ _. cond-elim (Answers r x) (not sent || isClosed r (takenAs r a)) (λ _. answers-refused r x _) (λ _. answers-taken r x (takenAs r a)))
 
 pub step-answers : (r : HeadRecord) (i : Input) → Answers r (reading (i .reading)) (step r i)
 unfolding step
 step-answers r i =
     cond-elim (Answers r (reading (i .reading))) (not (recordInRange r)) (λ _. answers-refused r _ _)
     (λ _. cond-elim (Answers r (reading (i .reading))) (not (inputFits (r .n) i)) (λ _. answers-refused r _ _) (λ _. action-answers r _ true (actionOf i)))
+
+-- CLOSING WHEN ALL HAVE SPOKEN (document 02, No. 4)
+
+-- "as soon as its own and every other head's latest vote name its candidate, and the adjust phase likewise with the adjuster";
+-- ""all" means all n": a phase under way closes exactly then
+module _ (k : Kind) (r : HeadRecord) where
+  abbrev choice : OptNumber
+  choice = phaseOf k r .choice
+
+  abbrev latest : ℕ → OptNumber
+  latest q = latestOf k (keptOf r q)
+
+  pub closes-when-all-have-spoken : (c : ℕ) → isUnderWay k r ≡ true → choice ≡ SomeNumber c → ((q : ℕ) → q < r .n → latest q ≡ SomeNumber c) → mayClose k r ≡ true
+  unfolding mayClose
+  closes-when-all-have-spoken c o ch all =
+      and-both o (below-all (r .n) (λ q. sameNumber (latest q) choice) (λ q l. ap₂ sameNumber (all q l) ch ∙ eqb-same c))
+
+  pub closes-only-when-all-have-spoken : mayClose k r ≡ true → (q : ℕ) → q < r .n → (c : ℕ) × (latest q ≡ SomeNumber c) × (choice ≡ SomeNumber c)
+  unfolding mayClose
+  closes-only-when-all-have-spoken e q l =
+      both-name (latest q) choice (all-below (r .n) (λ q. sameNumber (latest q) choice) (and-right (isUnderWay k r) _ e) q l)
+
+  -- no candidate, or no adjuster: never
+  pub no-early-close-without-choice : 0 < r .n → choice ≡ NoNumber → mayClose k r ≡ false
+  no-early-close-without-choice l e = cases (mayClose k r) (λ t. none-is-some (sym e ∙ closes-only-when-all-have-spoken t 0 l .2)) (λ t. t)
+
+-- "but never before its vote close"
+pub no-early-adjust-close-before-vote-close : (r : HeadRecord) → r .vote .closed ≡ false → mayClose adjusts r ≡ false
+unfolding mayClose
+no-early-adjust-close-before-vote-close r e = rw e refl
+
+-- "This is tested .. at the end of each action": both marks of the phase are then set
+pub record ClosedEarly (p : Phase) : Type 0 where
+  pub closed : p .closed ≡ true
+  pub early : p .early ≡ true
+
+module _ (r : HeadRecord) (a : Action) (tested : isTested r a ≡ true) where
+  pub vote-closes-early : mayClose votes (effect r a .after) ≡ true → ClosedEarly (act r a .after .vote)
+  unfolding act
+  vote-closes-early v = rw (tested, v) (record { closed = refl; early = refl })
+
+  -- "vote first": so one action may close both
+  pub both-close-early : mayClose votes (effect r a .after) ≡ true → allSpoken adjusts (effect r a .after) ≡ true → effect r a .after .adjust .closed ≡ false
+      → ClosedEarly (act r a .after .adjust)
+  unfolding act mayClose
+  both-close-early v all o = rw (tested, v, o, all) (record { closed = refl; early = refl })
+
+-- ".. but looks and those that these papers call without effect": these, and no others, are not tested, and have none
+pub data WithoutEffect (r : HeadRecord) : Action → Type 0 where
+  look : WithoutEffect r Look
+  late-start : {p : ℕ} → r .adjust .closed ≡ true → WithoutEffect r (StartDelivered p)
+  late-vote : {p k c : ℕ} {x : OptReading} → r .vote .closed ≡ true → WithoutEffect r (VoteDelivered p k c x)
+  old-vote : {p k c : ℕ} {x : OptReading} (j : ℕ) → keptOf r p .voted ≡ SomeNumber j → k ≤ j → WithoutEffect r (VoteDelivered p k c x)
+  late-adjust : {p k a : ℕ} {x : Reading} → r .adjust .closed ≡ true → WithoutEffect r (AdjustDelivered p k a x)
+  old-adjust : {p k a : ℕ} {x : Reading} (j : ℕ) → keptOf r p .adjusted ≡ SomeNumber j → k ≤ j → WithoutEffect r (AdjustDelivered p k a x)
+
+pub untested : {r : HeadRecord} {a : Action} → WithoutEffect r a → isTested r a ≡ false
+unfolding isTested
+untested look = refl
+untested (late-start e) = rw e refl
+untested (late-vote e) = rw e refl
+untested {r} (old-vote {k = k} j e h) = rw (e, not-above k j h) (not-is-false (or-second (r .vote .closed) true refl))
+untested (late-adjust e) = rw e refl
+untested {r} (old-adjust {k = k} j e h) = rw (e, not-above k j h) (not-is-false (or-second (r .adjust .closed) true refl))
+
+passed-over : {P : Type 0} (phase : Phase) (last : OptNumber) (k : ℕ) → not (isPassedOver phase last k) ≡ false
+    → (phase .closed ≡ true → P) → ((j : ℕ) → last ≡ SomeNumber j → k ≤ j → P) → P
+passed-over phase NoNumber k e late old = or-cases (phase .closed) _ (not-false e) late (λ u. absurd-bool u refl)
+passed-over phase (SomeNumber j) k e late old = or-cases (phase .closed) _ (not-false e) late (λ u. old j refl (ltb-false j k (not-true u)))
+
+pub tested-unless-without-effect : (r : HeadRecord) (a : Action) → isTested r a ≡ false → WithoutEffect r a
+unfolding isTested
+tested-unless-without-effect r Look e = look
+tested-unless-without-effect r StartSent e = absurd-bool refl e
+tested-unless-without-effect r (StartDelivered p) e = late-start (not-false e)
+tested-unless-without-effect r StartConfirmed e = absurd-bool refl e
+tested-unless-without-effect r VoteTurn e = absurd-bool refl e
+tested-unless-without-effect r (VoteDelivered p k c x) e = passed-over (r .vote) (keptOf r p .voted) k e late-vote old-vote
+tested-unless-without-effect r VoteClose e = absurd-bool refl e
+tested-unless-without-effect r AdjustTurn e = absurd-bool refl e
+tested-unless-without-effect r (AdjustDelivered p k a x) e = passed-over (r .adjust) (keptOf r p .adjusted) k e late-adjust old-adjust
+tested-unless-without-effect r AdjustClose e = absurd-bool refl e
+
+pub without-effect : {r : HeadRecord} {a : Action} → WithoutEffect r a → act r a ≡ silent r
+unfolding act effect
+without-effect {r} {a} w = rw (untested w) (go w)
+  where
+    go : {a : Action} → WithoutEffect r a → effect r a ≡ silent r
+    go look = refl
+    go (late-start {p} e) = no-start-after-close r p e
+    go (late-vote {p} {k} {c} e) = no-effect-after-close (r .vote) (keptOf r p .voted) k c r _ (vote c) e
+    go (old-vote {p} {k} {c} j e h) = no-effect-of-old-serial (r .vote) (keptOf r p .voted) k c r _ (vote c) j e h
+    go (late-adjust {p} {k} {a} {x} e) = no-effect-after-close (r .adjust) (keptOf r p .adjusted) k a r _ (adjust a x) e
+    go (old-adjust {p} {k} {a} {x} j e h) = no-effect-of-old-serial (r .adjust) (keptOf r p .adjusted) k a r _ (adjust a x) j e h
+
+-- "each sender's latest vote and adjust (none, or below n)", "a mark for each phase closed early, set only with that phase's close mark"
+module _ (k : Kind) (r : HeadRecord) (fits : recordInRange r ≡ true) where
+  pub latest-below-n : (p : ℕ) → p < r .n → (c : ℕ) → latestOf k (keptOf r p) ≡ SomeNumber c → c < r .n
+  latest-below-n p l c e = subst (λ (m : OptNumber). numberOr0 m < r .n) e (in-range fits .kept p .below l .latest k)
+
+  pub early-only-with-close-mark : phaseOf k r .early ≡ true → phaseOf k r .closed ≡ true
+  early-only-with-close-mark = in-range fits .early k
+
+-- "After an early vote close any action 6, and after an early adjust close any action 7 or 9, has no effect and isn't
+-- cause 9"; its reading still becomes the last reading
+pub data Spent (r : HeadRecord) : Action → Type 0 where
+  vote-close : r .vote .early ≡ true → Spent r VoteClose
+  adjust-turn : r .adjust .early ≡ true → Spent r AdjustTurn
+  adjust-close : r .adjust .early ≡ true → Spent r AdjustClose
+
+spent-look : {r : HeadRecord} {a : Action} → Spent r a → takenAs r a ≡ Look
+unfolding takenAs
+spent-look (vote-close e) = rw e refl
+spent-look (adjust-turn e) = rw e refl
+spent-look (adjust-close e) = rw e refl
+
+pub spent-without-effect : (r : HeadRecord) (x : Reading) (a : Action) → Spent r a → r .last .0 ≤ x .0 → takeAction r x true a ≡ silent (withLast r x)
+unfolding takeAction isClosed
+spent-without-effect r x a s le = rw (spent-look s, le-ltb (x .0) (r .last .0) le) (without-effect look)
+
+-- ".. only for the other actions": any other is taken as itself, or closed as ever
+pub others-taken-as-themselves : (r : HeadRecord) (a : Action) → (Spent r a → ⊥) → takenAs r a ≡ a
+unfolding takenAs
+others-taken-as-themselves r Look s = refl
+others-taken-as-themselves r StartSent s = refl
+others-taken-as-themselves r (StartDelivered p) s = refl
+others-taken-as-themselves r StartConfirmed s = refl
+others-taken-as-themselves r VoteTurn s = refl
+others-taken-as-themselves r (VoteDelivered p k c x) s = refl
+others-taken-as-themselves r VoteClose s = cond-elim (λ (b : Action). b ≡ VoteClose) (r .vote .early) (λ u. absurd (s (vote-close u))) (λ _. refl)
+others-taken-as-themselves r AdjustTurn s = cond-elim (λ (b : Action). b ≡ AdjustTurn) (r .adjust .early) (λ u. absurd (s (adjust-turn u))) (λ _. refl)
+others-taken-as-themselves r (AdjustDelivered p k c x) s = refl
+others-taken-as-themselves r AdjustClose s = cond-elim (λ (b : Action). b ≡ AdjustClose) (r .adjust .early) (λ u. absurd (s (adjust-close u))) (λ _. refl)
+
+module _ (g : Setting) where
+  -- "Premises 5 to 8 look at closes by entry only at heads still open"
+  pub closes-at-open-heads : (k : Kind) {s : History} {e : Event} → Taken g s e → Valid g s
+      → correctCloses g k e ≡ (correctTakes g (closing k) e && not (phaseOf k (recordOf g s (e .entry .head)) .closed))
+  closes-at-open-heads k {s} {e} t v =
+      cases (eqb (e .entry .action) (closing k))
+      (λ u. let c = close-by-entry g k t v (eqb-true _ _ u) in ap (λ (b : Bool). correctTakes g (closing k) e && not b) (c .1 ∙ sym (c .0)))
+      (λ u. let no-close : correctTakes g (closing k) e ≡ false = and-false (isCorrect g (e .entry .head)) (eqb (e .entry .action) (closing k)) u in rw no-close refl)
+
+  -- ".. and ask nothing where there is no such close"
+  none-between : (k : Kind) (h : History) → any (correctCloses g k) h ≡ false → noneBetween g k h ≡ true
+  unfolding noneBetween each
+  none-between k [] e = refl
+  none-between k (d ∷ s) e = rw (or-left (correctCloses g k d) _ e) (none-between k s (or-right (correctCloses g k d) _ e))
+
+  pub nothing-asked-without-vote-close : (h : History) → any (correctCloses g votes) h ≡ false → (premise5 g h ≡ true) × (premise6 g h ≡ true)
+  unfolding premise5 premise6
+  nothing-asked-without-vote-close h e = (rw e refl, none-between votes h e)
+
+  pub nothing-asked-without-adjust-close : (h : History) → any (correctCloses g adjusts) h ≡ false → (premise7 g h ≡ true) × (premise8 g h ≡ true)
+  unfolding premise7 premise8
+  nothing-asked-without-adjust-close h e = (rw e refl, none-between adjusts h e)
 
 -- premise 2: "For two entries of a correct head", d the earlier, whatever stands between them
 pub any-two-entries-steady : (g : Setting) {h s past : History} {d e : Event} → premise2 g h ≡ true → Earlier (e ∷ s) h → Earlier (d ∷ past) s

@@ -15,6 +15,7 @@ pub mod Phases
 pub mod Runs
 pub mod Broken
 pub mod Frames
+pub mod Spoken
 pub mod Starts
 pub mod Rounds
 pub mod Adjustments

@@ -83,19 +83,13 @@ first-of p (d ∷ h) e = go (any p h) refl (first-of p h) (p d) refl
     go false t ih true u = record { event = d; there = rw (t, u) now; holds = u; none-before = rw (t, u) t }
     go false t ih false u = absurd-bool e (rw (u, t) refl)
 
--- the first event that passes the test is the first at every later moment
-pub before-stays : (p : Event → Bool) {s h : History} → Earlier s h → any p s ≡ true → before p h ≡ before p s
-unfolding before
-before-stays p now t = refl
-before-stays p (later x) t = rw (any-grows p x t) (before-stays p x t)
-
 pub each-at : (t : Event → History → Bool) {e : Event} {s h : History} → each t h ≡ true → Earlier (e ∷ s) h → t e s ≡ true
 unfolding each
 each-at t {e} {s} g now = and-left (t e s) _ g
 each-at t g (later {e = d} {h = h} x) = each-at t (and-right (t d h) _ g) x
 
--- of two moments, the one at which a test has been passed by an event, and at the other not, is the later
-pub later-moment : (p : Event → Bool) {a b h : History} → Earlier a h → Earlier b h → any p a ≡ false → any p b ≡ true → Earlier a b
-later-moment p x now t u = x
-later-moment p now (later y) t u = absurd-bool (any-grows p (later y) u) t
-later-moment p (later x) (later y) t u = later-moment p x y t u
+-- a moment that is not before an event is after it
+pub later-event : {e : Event} {a b h : History} → Earlier (e ∷ a) h → Earlier b h → (Earlier b a → ⊥) → Earlier (e ∷ a) b
+later-event x now n = x
+later-event now (later y) n = absurd (n y)
+later-event (later x) (later y) n = later-event x y n

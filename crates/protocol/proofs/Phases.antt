@@ -1,9 +1,10 @@
 -- One phase of a round, votes or adjusts: what follows from what a step sends and what it takes of a delivered frame.
 -- A head's frames have the serials 0, 1, 2 .. and its choice only falls, so the last serial taken from a sender binds
 -- the receiver: its choice is at most what that frame named. Two heads that took each other's last frame therefore agree.
--- Main results, over the phase: `frame-stays`, `last-frame`, `delivered-choice`, `agree`.
+-- Main results, over the phase: `close-by-entry`, `took-close`, `over-keeps`, `chosen-at`, `frame-stays`, `last-frame`,
+-- `delivered-choice`, `agree`.
 use mathlib.Core.Path.{_≡_, refl, sym, _∙_, ap, subst}
-use mathlib.Core.Bool.{Bool, true, false, cond, not, _&&_}
+use mathlib.Core.Bool.{Bool, true, false, cond, not, _&&_, _||_}
 use mathlib.Core.List.{_∷_}
 use Prim.Native.Nat.{ℕ, zero, suc, _≤_, _<_}
 use native.Mathlib.Numerals.{add-one}
@@ -11,17 +12,18 @@ use native.Mathlib.Omega.{arith}
 use lib.Dec.{eqb}
 use lib.ListN.{getD, replicate}
 use borrow.Author.Tests.{eqb-true, eq-eqb, ltb-true, ltb-false}
-use Rattle.protocol.specs.Types.{OptReading, OptNumber, NoNumber, SomeNumber, Sender, Phase, HeadRecord, Setting, Frame, NoFrame, Start, Vote, Adjust}
-use Rattle.protocol.specs.Words.{hasSender}
+use Rattle.protocol.specs.Base.{any}
+use Rattle.protocol.specs.Types.{OptNumber, NoNumber, SomeNumber, Sender, Phase, HeadRecord, Setting, Action, Frame, NoFrame, Start, Vote, Adjust}
+use Rattle.protocol.specs.Words.{hasSender, isCorrect}
 use Rattle.protocol.specs.Record.{noSender, keptOf, fresh}
-use Rattle.protocol.specs.Step.{withVoteReading, isAbove, outranks}
+use Rattle.protocol.specs.Step.{earlyIf, isAbove, outranks, isClosed}
 use Rattle.protocol.specs.Run.{Event, History, recordOf, isDeliveredBy, orElse, frameSent, frameOf, isFrame}
-use Rattle.protocol.specs.Premises.{takes, receives, received}
+use Rattle.protocol.specs.Premises.{takes, receives, received, correctCloses, isEarly}
 use Rattle.protocol.specs.Premises as Premises
-use Rattle.protocol.proofs.Tests.{absurd-bool, and-left, and-right, and-both, or-first, or-right, or-cases, not-true, not-false, eqb-same, and-false}
+use Rattle.protocol.proofs.Tests.{absurd-bool, cases, and-left, and-right, and-both, or-first, or-second, or-right, or-cases, not-true, not-false, eqb-same, and-false}
 use Rattle.protocol.proofs.Moments.{Earlier, now, later, any-grows, find}
-use Rattle.protocol.proofs.Effects.{Kind, votes, adjusts, phaseOf, takenOf, delivery, closing, deliveryIn, deliveredBy, serialOf, named, namedBy, taken, passedOver, ignored, Delivery, prepared, Sending, sendingOf, namedIn, chosenBy, namedUnder, prepared-choice, prepared-sent, phase-last, chosen-turn, chosen-closed, phase-after, named-after, allowed, naming, Why, itself, told, none-is-some, same-number, closed-last, taken-after, ignored-frame, delivered-sending}
-use Rattle.protocol.proofs.Valid.{baseOf, Taken, Valid, start, more, frame-fits, record-at, record-other, by-head, of-effect, fixed, keptNext, kept-at, closed-took}
+use Rattle.protocol.proofs.Effects.{Kind, votes, adjusts, phaseOf, takenOf, delivery, closing, number, is-timed, deliveryIn, deliveredBy, serialOf, named, namedBy, taken, passedOver, ignored, Delivery, prepared, Sending, sendingOf, namedIn, chosenBy, namedUnder, prepared-choice, prepared-sent, phase-last, chosen-turn, named-after, allowed, naming, Why, itself, told, none-is-some, same-number, closed-last, closesEarly, answer-phase, answer-closed, answer-early, taken-close, close-open, Unsaid, taken-after, ignored-frame, delivered-sending}
+use Rattle.protocol.proofs.Valid.{baseOf, Taken, Valid, start, more, frame-fits, record-at, record-other, by-head, delivery-at, is-delivery, delivers, of-effect, fixed, closed-took, keptNext, kept-at}
 
 -- the first of two that is there
 abbrev pub orNumber : OptNumber → OptNumber → OptNumber
@@ -48,7 +50,8 @@ named-if true true x = refl
 named-if true false x = refl
 named-if false b x = refl
 
-no-senders : (k p : ℕ) → getD (replicate k noSender) p noSender ≡ noSender
+-- a fresh record keeps nothing
+pub no-senders : (k p : ℕ) → getD (replicate k noSender) p noSender ≡ noSender
 no-senders zero p = refl
 no-senders (suc k) zero = refl
 no-senders (suc k) (suc p) = no-senders k p
@@ -141,7 +144,6 @@ module _ (g : Setting) (k : Kind) where
   pub record SendsOne (s : History) (e : Event) : Type 0 where
     pub choice : ℕ
     pub was-open : isOver s (e .entry .head) ≡ false
-    pub stays-open : isOver (e ∷ s) (e .entry .head) ≡ false
     pub higher : outranks choice (held s (e .entry .head)) ≡ true
     pub origin : Origin s e choice
     pub held-new : held (e ∷ s) (e .entry .head) ≡ SomeNumber choice
@@ -159,9 +161,14 @@ module _ (g : Setting) (k : Kind) where
   abbrev pub preparedAt : {s : History} {e : Event} → Taken g s e → HeadRecord
   preparedAt {s} {e} t = prepared (baseOf g s e) (t .action)
 
-  pub phase-at : {s : History} {e : Event} (t : Taken g s e) → phaseOf k (recordOf g (e ∷ s) (e .entry .head)) ≡ chosenBy (namedIn k (sendingAt t)) (phaseOf k (preparedAt t))
+  -- the phase after the event: as after the sending, or closed early
+  abbrev pub closesEarlyAt : {s : History} {e : Event} → Taken g s e → Bool
+  closesEarlyAt {s} {e} t = closesEarly k (baseOf g s e) (t .action)
+
+  pub phase-at : {s : History} {e : Event} (t : Taken g s e)
+      → phaseOf k (recordOf g (e ∷ s) (e .entry .head)) ≡ earlyIf (closesEarlyAt t) (chosenBy (namedIn k (sendingAt t)) (phaseOf k (preparedAt t)))
   phase-at {s} {e} t =
-      rw (record-at g e s) (of-effect g (λ y. phaseOf k (y .after) ≡ chosenBy (namedIn k (sendingAt t)) (phaseOf k (preparedAt t))) t (phase-after k (sendingAt t) (preparedAt t)))
+      rw (record-at g e s) (of-effect g (λ y. phaseOf k (y .after) ≡ earlyIf (closesEarlyAt t) (chosenBy (namedIn k (sendingAt t)) (phaseOf k (preparedAt t)))) t (answer-phase k (baseOf g s e) (t .action)))
 
   pub choice-at : {s : History} {e : Event} (t : Taken g s e) → phaseOf k (preparedAt t) .choice ≡ held s (e .entry .head)
   choice-at {s} {e} t = prepared-choice k (baseOf g s e) (t .action) ∙ ap (λ (p : Phase). p .choice) (phase-last k _ _)
@@ -169,7 +176,7 @@ module _ (g : Setting) (k : Kind) where
   sent-at : {s : History} {e : Event} (t : Taken g s e) → phaseOf k (preparedAt t) .sent ≡ sent s (e .entry .head)
   sent-at {s} {e} t = prepared-sent k (baseOf g s e) (t .action) ∙ ap (λ (p : Phase). p .sent) (phase-last k _ _)
 
-  names-at : {s : History} {e : Event} (t : Taken g s e) (j : ℕ)
+  pub names-at : {s : History} {e : Event} (t : Taken g s e) (j : ℕ)
       → names (e ∷ s) (e .entry .head) j ≡ orNumber (names s (e .entry .head) j) (namedUnder (namedIn k (sendingAt t)) (sent s (e .entry .head)) j)
   names-at {s} {e} t j =
       names-step e s (e .entry .head) j ∙ rw (eqb-same (e .entry .head)) (ap (λ (m : OptNumber). orNumber (names s (e .entry .head) j) m)
@@ -181,9 +188,9 @@ module _ (g : Setting) (k : Kind) where
       own (o ∙ fixed g v (e .entry .head) .own-is) (ap (λ (p : Phase). p .choice) (sym (phase-last k _ _)) ∙ none)
       (ap (λ (p : Phase). p .turn) (phase-at t) ∙ chosen-turn (namedIn k (sendingAt t)) _ ∙ tu)
   origin-at {s} {e} t v c (told nu na) =
-      let is : e .entry .action ≡ delivery k = sym (t .asked .number-is) ∙ nu in
+      let is = is-delivery g k t nu in
       reached is (subst (λ (a : ℕ). named (frameSent s a (e .entry .sender) (e .entry .serial)) ≡ SomeNumber c) is
-      (ap (λ (d : Delivery). named (d .frame)) (sym (t .asked .delivery-is)) ∙ na))
+      (ap (λ (d : Delivery). named (d .frame)) (sym (delivery-at g t)) ∙ na))
 
   pub turn : {s : History} {e : Event} → Taken g s e → Valid g s → Turn s e
   turn {s} {e} t v = go (namedIn k (sendingAt t)) refl
@@ -199,13 +206,119 @@ module _ (g : Setting) (k : Kind) where
           sends-one (record {
             choice = c;
             was-open = ap (λ (p : Phase). p .closed) (sym (phase-last k _ _)) ∙ w .is-open;
-            stays-open = ap (λ (p : Phase). p .closed) (phase-at t) ∙ chosen-closed (namedIn k (sendingAt t)) _ ∙ w .stays-open;
             higher = rw (phase-last k (recordOf g s (e .entry .head)) (e .entry .reading)) at (w .higher);
             origin = origin-at t v c (w .why);
             held-new = ap (λ (p : Phase). p .choice) (phase-at t) ∙ rw u refl;
             sent-new = ap (λ (p : Phase). p .sent) (phase-at t) ∙ rw u (add-one _ ∙ ap suc (sent-at t));
             names-new = λ j. names-at t j ∙ rw u refl;
           })
+
+  -- a mark of closing stays
+  pub over-stays : {s : History} {e : Event} → Taken g s e → Valid g s → (q : ℕ) → isOver s q ≡ true → isOver (e ∷ s) q ≡ true
+  over-stays {s} {e} t v q =
+      by-head (λ q. isOver s q ≡ true → isOver (e ∷ s) q ≡ true) e q
+      (λ h. ap (λ (r : HeadRecord). phaseOf k r .closed) (record-at g e s) ∙ of-effect g (λ y. phaseOf k (y .after) .closed ≡ true) t
+      (answer-closed k (baseOf g s e) (t .action) ∙ or-second (closesEarlyAt t) _ (or-second (eqb (number (t .action)) (closing k)) _ (ap (λ (p : Phase). p .closed) (phase-last k _ _) ∙ h))))
+      (λ d h. ap (λ (r : HeadRecord). phaseOf k r .closed) (record-other g e s q d) ∙ h)
+
+  pub was-open : {s : History} {e : Event} → Taken g s e → Valid g s → (q : ℕ) → isOver (e ∷ s) q ≡ false → isOver s q ≡ false
+  was-open {s} t v q o = cases (isOver s q) (λ u. absurd-bool (over-stays t v q u) o) (λ u. u)
+
+  pub over-later : {s h : History} → Earlier s h → Valid g h → (q : ℕ) → isOver s q ≡ true → isOver h q ≡ true
+  over-later now v q o = o
+  over-later (later x) (more t v) q o = over-stays t v q (over-later x v q o)
+
+  pub early-at : {s : History} {e : Event} (t : Taken g s e) → isEarly g k (e ∷ s) (e .entry .head) ≡ (closesEarlyAt t || isEarly g k s (e .entry .head))
+  early-at {s} {e} t =
+      ap (λ (r : HeadRecord). phaseOf k r .early) (record-at g e s) ∙ of-effect g (λ y. phaseOf k (y .after) .early ≡ (closesEarlyAt t || isEarly g k s (e .entry .head))) t
+      (answer-early k (baseOf g s e) (t .action) ∙ ap (λ (p : Phase). closesEarlyAt t || p .early) (phase-last k (recordOf g s (e .entry .head)) (e .entry .reading)))
+
+  pub early-stays : {s : History} {e : Event} → Taken g s e → Valid g s → (q : ℕ) → isEarly g k s q ≡ true → isEarly g k (e ∷ s) q ≡ true
+  early-stays {s} {e} t v q =
+      by-head (λ q. isEarly g k s q ≡ true → isEarly g k (e ∷ s) q ≡ true) e q (λ h. early-at t ∙ or-second (closesEarlyAt t) _ h)
+      (λ d h. ap (λ (r : HeadRecord). phaseOf k r .early) (record-other g e s q d) ∙ h)
+
+  pub early-later : {s h : History} → Earlier s h → Valid g h → (q : ℕ) → isEarly g k s q ≡ true → isEarly g k h q ≡ true
+  early-later now v q o = o
+  early-later (later x) (more t v) q o = early-stays t v q (early-later x v q o)
+
+  -- an action 6 or 9 finds the phase open, or closed early; it leaves it not early exactly where it finds it open
+  pub close-by-entry : {s : History} {e : Event} → Taken g s e → Valid g s → e .entry .action ≡ closing k
+      → (isOver s (e .entry .head) ≡ isEarly g k s (e .entry .head)) × (phaseOf k (e .after) .early ≡ isEarly g k s (e .entry .head))
+  close-by-entry {s} {e} t v a = cases (isEarly g k s q) found-closed found-open
+    where
+      q : ℕ
+      q = e .entry .head
+
+      after : phaseOf k (e .after) .early ≡ isEarly g k (e ∷ s) q
+      after = ap (λ (r : HeadRecord). phaseOf k r .early) (sym (record-at g e s))
+
+      found-closed : isEarly g k s q ≡ true → (isOver s q ≡ isEarly g k s q) × (phaseOf k (e .after) .early ≡ isEarly g k s q)
+      found-closed u = (closed-took g k v q ∙ or-second (Premises.took (closing k) q s) _ u ∙ sym u, after ∙ early-stays t v q u ∙ sym u)
+
+      found-open : isEarly g k s q ≡ false → (isOver s q ≡ isEarly g k s q) × (phaseOf k (e .after) .early ≡ isEarly g k s q)
+      found-open u =
+          let asked : eqb (number (t .asks)) (closing k) ≡ true = eq-eqb _ _ (t .asked .number-is ∙ a) in
+          let same = taken-close k (t .as-action) in
+          let nu : eqb (number (t .action)) (closing k) ≡ true = or-cases (eqb (number (t .action)) (closing k)) (isEarly g k s q) (same ∙ or-first (eqb (number (t .asks)) (closing k)) _ asked) (λ w. w) (λ w. absurd-bool w u) in
+          let is = is-timed (t .action) (closing k) (no-sender k) (eqb-true _ _ nu) in
+          let o = close-open k (baseOf g s e) (subst (λ (i : Action). isClosed (baseOf g s e) i ≡ false) is (closed-last _ _ (t .action) ∙ t .is-open)) in (
+            ap (λ (p : Phase). p .closed) (sym (phase-last k (recordOf g s q) (e .entry .reading))) ∙ o .0 ∙ sym u,
+            after ∙ early-at t ∙ rw (ap (closesEarly k (baseOf g s e)) is ∙ o .1) refl,
+          )
+        where
+          no-sender : (k : Kind) → hasSender (closing k) ≡ false
+          no-sender votes = refl
+          no-sender adjusts = refl
+
+  -- what a correct head takes as a close is one, unless it has closed the phase early
+  pub is-close : (e : Event) (s : History) (q : ℕ) → isCorrect g q ≡ true → takes (closing k) q e ≡ true → isEarly g k (e ∷ s) q ≡ false → correctCloses g k e ≡ true
+  is-close e s q c u o =
+      let is : e .entry .head ≡ q = eqb-true (e .entry .head) q (and-left (eqb (e .entry .head) q) _ u) in
+      let open-yet : phaseOf k (e .after) .early ≡ false = ap (λ (r : HeadRecord). phaseOf k r .early) (sym (record-at g e s)) ∙ ap (isEarly g k (e ∷ s)) is ∙ o in
+      and-both (and-both (ap (isCorrect g) is ∙ c) (and-right (eqb (e .entry .head) q) _ u)) (rw open-yet refl)
+
+  pub took-close : {s : History} → Valid g s → (q : ℕ) → isCorrect g q ≡ true → isEarly g k s q ≡ false → Premises.took (closing k) q s ≡ true → any (correctCloses g k) s ≡ true
+  took-close {s} v q c o t =
+      let f = find (takes (closing k) q) s t in
+      let open-then = cases (isEarly g k (f .event ∷ f .past) q) (λ u. absurd-bool (early-later (f .there) v q u) o) (λ u. u) in
+      any-grows (correctCloses g k) (f .there) (or-first (correctCloses g k (f .event)) _ (is-close (f .event) (f .past) q c (f .holds) open-then))
+
+  -- a closed phase keeps its choice
+  pub over-keeps : {s h : History} → Earlier s h → Valid g h → (q : ℕ) → isOver s q ≡ true → held h q ≡ held s q
+  over-keeps now v q o = refl
+  over-keeps {s} (later {e = e} {h = h} x) (more t v) q o =
+      by-head (λ q. isOver h q ≡ true → held (e ∷ h) q ≡ held h q) e q (go (turn t v)) (λ d _. held-other e h q d) (over-later x v q o) ∙ over-keeps x v q o
+    where
+      go : Turn h e → isOver h (e .entry .head) ≡ true → held (e ∷ h) (e .entry .head) ≡ held h (e .entry .head)
+      go (sends-none z) o = z .held-same
+      go (sends-one z) o = absurd-bool o (z .was-open)
+
+  -- who has a choice chose it at an event that found the phase open
+  pub record ChosenAt (h : History) (q c : ℕ) : Type 0 where
+    pub event : Event
+    pub past : History
+    pub there : Earlier (event ∷ past) h
+    pub was-open : isOver past q ≡ false
+    pub holds : held (event ∷ past) q ≡ SomeNumber c
+
+  pub chosen-at : {h : History} → Valid g h → (q c : ℕ) → held h q ≡ SomeNumber c → ChosenAt h q c
+  unfolding recordOf fresh
+  chosen-at start q c = λ h. absurd (nobody-chosen k h)
+    where
+      nobody-chosen : (k : Kind) → phaseOf k (fresh (g .n) (g .f) q) .choice ≡ SomeNumber c → ⊥
+      nobody-chosen votes h = none-is-some h
+      nobody-chosen adjusts h = none-is-some h
+  chosen-at (more {e = e} {s = s} t v) q c =
+      by-head (λ q. held (e ∷ s) q ≡ SomeNumber c → ChosenAt (e ∷ s) q c) e q (go (turn t v) (chosen-at v (e .entry .head) c))
+      (λ d h. on (chosen-at v q c (sym (held-other e s q d) ∙ h)))
+    where
+      on : {q : ℕ} → ChosenAt s q c → ChosenAt (e ∷ s) q c
+      on b = record { event = b .event; past = b .past; there = later (b .there); was-open = b .was-open; holds = b .holds }
+
+      go : Turn s e → (held s (e .entry .head) ≡ SomeNumber c → ChosenAt s (e .entry .head) c) → held (e ∷ s) (e .entry .head) ≡ SomeNumber c → ChosenAt (e ∷ s) (e .entry .head) c
+      go (sends-none z) ih h = on (ih (sym (z .held-same) ∙ h))
+      go (sends-one z) ih h = record { event = e; past = s; there = now; was-open = z .was-open; holds = h }
 
   -- what an event does about the frames of sender p: nothing, or its head takes one
   pub record PassedOver (s : History) (e : Event) (p : ℕ) : Type 0 where
@@ -231,15 +344,15 @@ module _ (g : Setting) (k : Kind) where
       → takenOf k (keptOf (recordOf g (e ∷ s) (e .entry .head)) p) ≡ takenOf k (keptNext g s e p)
   taken-at t v small p = kept-at g (takenOf k) (keeps k) t v small p
     where
-      keeps : (k : Kind) (z : Sender) (y : OptReading) → takenOf k (withVoteReading z y) ≡ takenOf k z
-      keeps votes z y = refl
-      keeps adjusts z y = refl
+      keeps : (k : Kind) → Unsaid (takenOf k)
+      keeps votes z y c a = refl
+      keeps adjusts z y c a = refl
 
   -- the frame is one of the phase exactly where the action delivers one
   frame-of-phase : {s : History} {e : Event} → Taken g s e → e .entry .action ≡ delivery k → eqb (deliveredBy (frameOf s (e .entry))) (delivery k) ≡ true
   frame-of-phase {s} {e} t a = eq-eqb _ _ (t .asked .frame-is ∙ rw (a, has-sender k) refl)
 
-  phase-of-frame : {s : History} {e : Event} → Taken g s e → eqb (deliveredBy (frameOf s (e .entry))) (delivery k) ≡ true → e .entry .action ≡ delivery k
+  pub phase-of-frame : {s : History} {e : Event} → Taken g s e → eqb (deliveredBy (frameOf s (e .entry))) (delivery k) ≡ true → e .entry .action ≡ delivery k
   phase-of-frame {s} {e} t b = go (hasSender (e .entry .action)) (sym (t .asked .frame-is) ∙ eqb-true _ _ b)
     where
       go : (h : Bool) → cond h (e .entry .action) 0 ≡ delivery k → e .entry .action ≡ delivery k
@@ -279,14 +392,14 @@ module _ (g : Setting) (k : Kind) where
       follows c na = go (outranks c (phaseOf k r .choice)) refl
         where
           in-action : named (deliveryIn (t .action) .frame) ≡ SomeNumber c
-          in-action = ap (λ (y : Delivery). named (y .frame)) (t .asked .delivery-is) ∙ na
+          in-action = ap (λ (y : Delivery). named (y .frame)) (delivery-at g t) ∙ na
 
           not-passed : passedOver k r (deliveryIn (t .action) .sender) (serialOf (deliveryIn (t .action) .frame)) ≡ false
-          not-passed = rw (t .asked .delivery-is) u
+          not-passed = rw (delivery-at g t) u
 
           go : (o : Bool) → outranks c (phaseOf k r .choice) ≡ o → (w : ℕ) × (held (e ∷ s) (e .entry .head) ≡ SomeNumber w) × (w ≤ c)
           go true o =
-              let named-it = delivered-sending k r (t .action) c (t .asked .number-is ∙ a) in-action not-passed o in
+              let named-it = delivered-sending k r (t .action) c (delivers g k t a) in-action not-passed o in
               (c, ap (λ (z : Phase). z .choice) (phase-at t) ∙ rw named-it refl, omega arith)
           go false o =
               let w = not-outranked c (phaseOf k r .choice) o in
@@ -479,7 +592,7 @@ module _ (g : Setting) (k : Kind) where
       (reached-taken small v q p j (rw d at h) (ap (λ (r : HeadRecord). phaseOf k r .closed) (sym (record-other g e s q d)) ∙ o)))
     where
       still-open : isOver (e ∷ s) (e .entry .head) ≡ false → isOver s (e .entry .head) ≡ false
-      still-open o = closed-took g k v (e .entry .head) ∙ or-right (takes (closing k) (e .entry .head) e) _ (sym (closed-took g k (more t v) (e .entry .head)) ∙ o)
+      still-open o = was-open t v (e .entry .head) o
 
       old : Hearing s e p → j < lastTaken s (e .entry .head) p → j < lastTaken (e ∷ s) (e .entry .head) p
       old (passed z) h = let eq = z .last-same in omega arith

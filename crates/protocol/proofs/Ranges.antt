@@ -1,13 +1,13 @@
 -- Record ranges are kept by every step and every run, so a replay never meets cause 10.
 -- The test of cause 10 is turned into facts. A fresh record has them, and an action that is not closed keeps them, in
--- both parts of its effect. What is kept of a frame in range is in range, and a mark is set only after those that it
+-- both parts of its effect and in the test at its end. What is kept of a frame in range is in range, and a mark is set only after those that it
 -- asks for. A head that sends names itself or whom the frame named, and each choice outranks the last one, so that with k frames
 -- sent the choice is at most n − k. An adjustment is carried, or it is a median of readings in range.
 -- Main results: `in-range`, `range-test`, `median-in`, `effect-in-range`, `take-in-range`, `step-in-range`,
 -- `fresh-in-range`, `run-in-range`, `frames-in-range`, `votes-below`.
 use mathlib.Core.Path.{_≡_, refl, sym, _∙_, subst}
 use mathlib.Core.Bool.{Bool, true, false, cond, not, _&&_, _||_}
-use mathlib.Core.List.{List, [], _∷_}
+use mathlib.Core.List.{List, _∷_}
 use Prim.Native.Nat.{ℕ, zero, suc, _+_, _*_, _^_, _≤_, _<_}
 use native.Mathlib.Omega.{arith}
 use lib.Dec.{ltb, leb, eqb, lit<}
@@ -17,27 +17,28 @@ use Rattle.protocol.specs.Base.{_⇒_}
 use Rattle.protocol.specs.Types.{Reading, OptReading, NoReading, SomeReading, OptNumber, NoNumber, SomeNumber, Sender, HeadRecord, Setting, Input, Stepped, Frame, NoFrame, Start, Vote, Adjust}
 use Rattle.protocol.specs.Types.{Action, Look, StartSent, StartDelivered, StartConfirmed, VoteTurn, VoteDelivered, VoteClose, AdjustTurn, AdjustDelivered, AdjustClose}
 use Rattle.protocol.specs.Words.{headsFit}
-use Rattle.protocol.specs.Record.{isReading, isNumber, readingOr0, numberOr0, reading, noSender, keptOf, startOf, voteOf, fresh, readingInRange, serialInRange, senderInRange, senderIsNone, sentInRange, phaseInRange, marksInRange, recordInRange}
+use Rattle.protocol.specs.Record.{isReading, isNumber, readingOr0, numberOr0, reading, noSender, keptOf, startOf, voteOf, fresh, readingInRange, serialInRange, nameInRange, senderInRange, senderIsNone, sentInRange, phaseInRange, marksInRange, recordInRange}
 use Rattle.protocol.specs.Median.{median}
-use Rattle.protocol.specs.Step.{withVoteReading, withLast, accepted, vote, adjust, prepend, voteReadings, outranks, effect, isClosed, takeAction, actionsOf, actionOf, inputFits, step}
+use Rattle.protocol.specs.Step.{withVoteReading, withCandidate, withAdjuster, withLast, accepted, vote, adjust, prepend, voteReadings, outranks, effect, isClosed, mayClose, closeEarly, concluded, isTested, act, takenAs, takeAction, actionsOf, actionOf, inputFits, step}
 use Rattle.protocol.specs.Run.{History, recordOf, isDeliveredBy, orElse, frameSent, carriedReading}
-use Rattle.protocol.proofs.Tests.{absurd-bool, cases, cond-elim, not-true, not-false, parts, and-both, or-left, or-right, or-cases, implied, all-below, below-all}
+use Rattle.protocol.proofs.Tests.{absurd-bool, cases, cond-elim, not-true, not-false, parts, and-left, and-right, and-both, or-left, or-right, or-first, or-second, or-cases, implied, all-below, below-all}
 use Rattle.protocol.proofs.Medians.{every-at, median-holds}
 pub use Rattle.protocol.proofs.Medians.{Every}
-use Rattle.protocol.proofs.Effects.{Kind, votes, adjusts, phaseOf, takenOf, Delivery, noDelivery, deliveryIn, serialOf, named, ignored, keptAfter, prepared, Sending, send, effect-split, Why, itself, told, Naming, Source, computed, passed-on, Allowed, sends-nothing, sends-start, sends-vote, sends-adjust, no-number, allowed, none-is-some, closed-last}
-use Rattle.protocol.proofs.Valid.{baseOf, Valid, start, more, heads-fit, record-at, record-other, by-head, fixed}
+use Rattle.protocol.proofs.Effects.{Kind, votes, adjusts, phaseOf, takenOf, latestOf, number, Delivery, noDelivery, deliveryIn, serialOf, named, set-holds, ignored, keptAfter, prepared, Sending, send, effect-split, Why, itself, told, Naming, Source, computed, passed-on, Allowed, sends-nothing, sends-start, sends-vote, sends-adjust, no-number, allowed, none-is-some, closed-last, earlyNow, taken-as, taken-delivery}
+use Rattle.protocol.proofs.Valid.{baseOf, Valid, start, more, heads-fit, record-at, record-other, by-head, delivery-at, fixed}
 
 -- THE RANGES AS FACTS; a reading or a number that is none counts as 0, which is in every range
 
--- what is kept by one sender
-pub record SenderInRange (s : Sender) : Type 0 where
+-- what is kept by one sender of n
+pub record SenderInRange (n : ℕ) (s : Sender) : Type 0 where
   pub start : readingOr0 (s .start) < 2 ^ 28
   pub vote : readingOr0 (s .vote) < 2 ^ 28
   pub serial : (k : Kind) → numberOr0 (takenOf k s) ≤ 15
+  pub latest : (k : Kind) → numberOr0 (latestOf k s) < n
 
 -- what is kept by sender p of n
 pub record KeptInRange (n p : ℕ) (s : Sender) : Type 0 where
-  pub below : p < n → SenderInRange s
+  pub below : p < n → SenderInRange n s
   pub above : n ≤ p → p < 16 → s ≡ noSender
 
 -- a phase's choice and the number of frames sent in it
@@ -61,6 +62,7 @@ pub record InRange (r : HeadRecord) : Type 0 where
   pub adjustment : r .adjustment .0 < 2 ^ 28
   pub unadjusted : r .adjust .choice ≡ NoNumber → r .adjustment .0 ≡ 0
   pub phase : (k : Kind) → SentInRange (r .n) (phaseOf k r .choice) (phaseOf k r .sent)
+  pub early : (k : Kind) → phaseOf k r .early ≡ true → phaseOf k r .closed ≡ true
   pub marks : MarksInRange r
   pub kept : (p : ℕ) → KeptInRange (r .n) p (keptOf r p)
 
@@ -94,19 +96,29 @@ serial-test : (m : OptNumber) → serialInRange m ≡ leb (numberOr0 m) 15
 serial-test NoNumber = refl
 serial-test (SomeNumber k) = refl
 
+name-test : (n : ℕ) → 0 < n → (m : OptNumber) → nameInRange n m ≡ ltb (numberOr0 m) n
+name-test n h NoNumber = sym (lt-ltb 0 n h)
+name-test n h (SomeNumber c) = refl
+
 no-reading : (x : OptReading) → isReading x ≡ false → x ≡ NoReading
 no-reading NoReading e = refl
 no-reading (SomeReading x) e = absurd-bool refl e
 
-sender-in-range : {s : Sender} → senderInRange s ≡ true → SenderInRange s
+sender-in-range : (n : ℕ) → 0 < n → {s : Sender} → senderInRange n s ≡ true → SenderInRange n s
 unfolding senderInRange
-sender-in-range e =
-    let t = simp (reading-test, serial-test) at e in
-    record { start = ltb-true _ _ (search parts); vote = ltb-true _ _ (search parts); serial = for-both _ (leb-true _ _ (search parts)) (leb-true _ _ (search parts)) }
+sender-in-range n b e =
+    let t = simp (reading-test, serial-test, name-test n b) at e in
+    record {
+      start = ltb-true _ _ (search parts);
+      vote = ltb-true _ _ (search parts);
+      serial = for-both _ (leb-true _ _ (search parts)) (leb-true _ _ (search parts));
+      latest = for-both _ (ltb-true _ _ (search parts depth 6)) (ltb-true _ _ (search parts depth 6));
+    }
 
-sender-test : {s : Sender} → SenderInRange s → senderInRange s ≡ true
+sender-test : (n : ℕ) → 0 < n → {s : Sender} → SenderInRange n s → senderInRange n s ≡ true
 unfolding senderInRange
-sender-test h = simp (reading-test, serial-test, lt-ltb _ _ (h .start), lt-ltb _ _ (h .vote), le-leb _ _ (h .serial votes), le-leb _ _ (h .serial adjusts))
+sender-test n b h =
+    simp (reading-test, serial-test, name-test n b, lt-ltb _ _ (h .start), lt-ltb _ _ (h .vote), le-leb _ _ (h .serial votes), le-leb _ _ (h .serial adjusts), lt-ltb _ _ (h .latest votes), lt-ltb _ _ (h .latest adjusts))
 
 nothing-kept : (s : Sender) → senderIsNone s ≡ true → s ≡ noSender
 unfolding senderIsNone
@@ -115,7 +127,9 @@ nothing-kept s e =
     let b = no-reading (s .vote) (not-true (search parts)) in
     let c = no-number (s .voted) (not-true (search parts)) in
     let d = no-number (s .adjusted) (not-true (search parts)) in
-    λ i. record { start = a i; vote = b i; voted = c i; adjusted = d i }
+    let v = no-number (s .candidate) (not-true (search parts depth 6)) in
+    let w = no-number (s .adjuster) (not-true (search parts depth 6)) in
+    λ i. record { start = a i; vote = b i; voted = c i; adjusted = d i; candidate = v i; adjuster = w i }
 
 sent-in-range : (n : ℕ) (m : OptNumber) (sent : ℕ) → sentInRange n m sent ≡ true → SentInRange n m sent
 sent-in-range n NoNumber sent e = eqb-true sent 0 e
@@ -134,11 +148,11 @@ adjustment-test NoNumber x f = eq-eqb x 0 (f refl)
 adjustment-test (SomeNumber v) x f = refl
 
 abbrev keptTest : HeadRecord → ℕ → Bool
-keptTest r p = cond (ltb p (r .n)) (senderInRange (keptOf r p)) (senderIsNone (keptOf r p))
+keptTest r p = cond (ltb p (r .n)) (senderInRange (r .n) (keptOf r p)) (senderIsNone (keptOf r p))
 
 kept-test : {r : HeadRecord} → InRange r → (p : ℕ) → p < 16 → keptTest r p ≡ true
 unfolding senderIsNone
-kept-test {r} h p b = cases (ltb p (r .n)) (λ t. rw t (sender-test (h .kept p .below (ltb-true _ _ t)))) (λ t. rw (t, h .kept p .above (ltb-false _ _ t) b) refl)
+kept-test {r} h p b = cases (ltb p (r .n)) (λ t. rw t (sender-test (r .n) (omega (arith, h .heads .0)) (h .kept p .below (ltb-true _ _ t)))) (λ t. rw (t, h .kept p .above (ltb-false _ _ t) b) refl)
 
 pub in-range : {r : HeadRecord} → recordInRange r ≡ true → InRange r
 unfolding recordInRange phaseInRange marksInRange
@@ -152,15 +166,16 @@ in-range {r} e =
       adjustment = ltb-true _ _ (search parts);
       unadjusted = λ u. or-cases (isNumber (r .adjust .choice)) (eqb (r .adjustment .0) 0) (search parts) (λ t. absurd-bool t (rw u refl)) (eqb-true _ 0);
       phase = for-both _ (sent-in-range (r .n) (r .vote .choice) (r .vote .sent) (search parts depth 9)) (sent-in-range (r .n) (r .adjust .choice) (r .adjust .sent) (search parts depth 9));
+      early = for-both _ (implied (r .vote .early) _ (search parts depth 9)) (implied (r .adjust .early) _ (search parts depth 9));
       marks = record { confirmed = implied (r .confirmed) _ (search parts depth 9); turn = implied (r .vote .turn) _ (search parts depth 10); adjusting = implied (r .adjust .turn || r .adjust .closed) _ (search parts depth 10) };
-      kept = λ p. record { below = λ b. sender-in-range (rw (lt-ltb p (r .n) b) at (tested p (omega arith))); above = λ a b. nothing-kept _ (rw (le-ltb p (r .n) a) at (tested p b)) };
+      kept = λ p. record { below = λ b. sender-in-range (r .n) (omega arith) (rw (lt-ltb p (r .n) b) at (tested p (omega arith))); above = λ a b. nothing-kept _ (rw (le-ltb p (r .n) a) at (tested p b)) };
     }
 
 pub range-test : {r : HeadRecord} → InRange r → recordInRange r ≡ true
 unfolding recordInRange phaseInRange marksInRange
 range-test {r} h =
     let heads : headsFit (r .n) (r .f) ≡ true = and-both (le-leb _ _ (h .heads .0)) (and-both (le-leb _ _ (h .heads .1)) (le-leb _ _ (h .heads .2))) in
-    let phase : (k : Kind) → phaseInRange (r .n) (phaseOf k r) ≡ true = λ k. sent-test (r .n) (phaseOf k r .choice) (phaseOf k r .sent) (h .phase k) in
+    let phase : (k : Kind) → phaseInRange (r .n) (phaseOf k r) ≡ true = λ k. and-both (sent-test (r .n) (phaseOf k r .choice) (phaseOf k r .sent) (h .phase k)) (implication-test _ _ (h .early k)) in
     let marks : marksInRange r ≡ true = and-both (implication-test _ _ (h .marks .confirmed)) (and-both (implication-test _ _ (h .marks .turn)) (implication-test _ _ (h .marks .adjusting))) in
     and-both heads (and-both (lt-ltb _ _ (h .own)) (and-both (lt-ltb _ _ (h .last)) (and-both (lt-ltb _ _ (h .adjustment)) (and-both (adjustment-test _ _ (h .unadjusted))
     (and-both (phase votes) (and-both (phase adjusts) (and-both marks (below-all 16 (keptTest r) (kept-test h)))))))))
@@ -181,23 +196,15 @@ vote-readings-below {r} h (suc p) b = every-prepend (λ x. x < 2 ^ 28) (voteOf r
 
 -- AN EFFECT: first what is kept of the action
 
--- what holds at every index, and of the element written, holds at every index after the write
-set-holds : (P : ℕ → Sender → Type 0) (l : List Sender) (p : ℕ) (s : Sender) → P p s → ((q : ℕ) → P q (getD l q noSender)) → (q : ℕ) → P q (getD (set l p s) q noSender)
-set-holds P [] p s h k q = k q
-set-holds P (x ∷ l) zero s h k zero = h
-set-holds P (x ∷ l) zero s h k (suc q) = k (suc q)
-set-holds P (x ∷ l) (suc p) s h k zero = k zero
-set-holds P (x ∷ l) (suc p) s h k (suc q) = set-holds (λ j. P (suc j)) l p s h (λ j. k (suc j)) q
-
-set-in-range : {n : ℕ} (l : List Sender) (p : ℕ) (s : Sender) → p < n → SenderInRange s → ((q : ℕ) → KeptInRange n q (getD l q noSender))
+set-in-range : {n : ℕ} (l : List Sender) (p : ℕ) (s : Sender) → p < n → SenderInRange n s → ((q : ℕ) → KeptInRange n q (getD l q noSender))
     → (q : ℕ) → KeptInRange n q (getD (set l p s) q noSender)
 set-in-range {n} l p s b h k = set-holds (KeptInRange n) l p s (record { below = λ _. h; above = λ a _. absurd (omega arith) }) k
 
-kept-after-in-range : {r : HeadRecord} (p : ℕ) (x : Frame) → InRange r → p < r .n → FrameInRange (r .n) x → SenderInRange (keptAfter r p x)
+kept-after-in-range : {r : HeadRecord} (p : ℕ) (x : Frame) → InRange r → p < r .n → FrameInRange (r .n) x → SenderInRange (r .n) (keptAfter r p x)
 kept-after-in-range p NoFrame h b f = h .kept p .below b
-kept-after-in-range p Start h b f = let s = h .kept p .below b in record { start = h .last; vote = s .vote; serial = for-both _ (s .serial votes) (s .serial adjusts) }
-kept-after-in-range p (Vote j c x) h b f = let s = h .kept p .below b in record { start = s .start; vote = f .reading; serial = for-both _ (f .serial) (s .serial adjusts) }
-kept-after-in-range p (Adjust j c x) h b f = let s = h .kept p .below b in record { start = s .start; vote = s .vote; serial = for-both _ (s .serial votes) (f .serial) }
+kept-after-in-range p Start h b f = let s = h .kept p .below b in record { start = h .last; vote = s .vote; serial = for-both _ (s .serial votes) (s .serial adjusts); latest = for-both _ (s .latest votes) (s .latest adjusts) }
+kept-after-in-range p (Vote j c x) h b f = let s = h .kept p .below b in record { start = s .start; vote = f .reading; serial = for-both _ (f .serial) (s .serial adjusts); latest = for-both _ (f .choice) (s .latest adjusts) }
+kept-after-in-range p (Adjust j c x) h b f = let s = h .kept p .below b in record { start = s .start; vote = s .vote; serial = for-both _ (s .serial votes) (f .serial); latest = for-both _ (s .latest votes) (f .choice) }
 
 -- an action that is not closed finds the marks that its own asks for
 prepared-marks : (r : HeadRecord) (a : Action) → isClosed r a ≡ false → MarksInRange r → MarksInRange (prepared r a)
@@ -226,7 +233,7 @@ module _ {r : HeadRecord} (a : Action) (h : InRange r) (i : ActionInRange (r .n)
 
   prepared-in-range : InRange (prepared r a)
   prepared-in-range =
-      record { heads = h .heads; own = h .own; last = h .last; adjustment = h .adjustment; unadjusted = h .unadjusted; phase = for-both _ (h .phase votes) (h .phase adjusts); marks = prepared-marks r a o (h .marks); kept = prepared-kept }
+      record { heads = h .heads; own = h .own; last = h .last; adjustment = h .adjustment; unadjusted = h .unadjusted; phase = for-both _ (h .phase votes) (h .phase adjusts); early = for-both _ (λ u. or-second (eqb (number a) 6) _ (h .early votes u)) (λ u. or-second (eqb (number a) 9) _ (h .early adjusts u)); marks = prepared-marks r a o (h .marks); kept = prepared-kept }
 
   -- then what the head says
   named-below : {k : Kind} {c : ℕ} → Why k r a c → c < r .n
@@ -249,31 +256,67 @@ module _ {r : HeadRecord} (a : Action) (h : InRange r) (i : ActionInRange (r .n)
       let new = allowed-in-range votes s in
       let own = m .kept (r .own) .below (h .own) in
       let start = m .kept c .below (omega arith) .start in
-      let mine : SenderInRange (withVoteReading (keptOf (prepared r a) (r .own)) (startOf (prepared r a) c)) = record { start = own .start; vote = start; serial = for-both _ (own .serial votes) (own .serial adjusts) } in
+      let mine : SenderInRange (r .n) (withCandidate (withVoteReading (keptOf (prepared r a) (r .own)) (startOf (prepared r a) c)) c) =
+      record { start = own .start; vote = start; serial = for-both _ (own .serial votes) (own .serial adjusts); latest = for-both _ (omega arith) (own .latest adjusts) } in
       let kept = set-in-range (prepared r a .senders) (r .own) _ (h .own) mine (m .kept) in
-      (record { heads = m .heads; own = m .own; last = m .last; adjustment = m .adjustment; unadjusted = m .unadjusted; phase = for-both _ new (m .phase adjusts); marks = m .marks; kept = kept }, omega arith)
-  send-in-range (sends-adjust s t) =
+      (record { heads = m .heads; own = m .own; last = m .last; adjustment = m .adjustment; unadjusted = m .unadjusted; phase = for-both _ new (m .phase adjusts); early = for-both _ (m .early votes) (m .early adjusts); marks = m .marks; kept = kept }, omega arith)
+  send-in-range (sends-adjust {c = c} s t) =
       let m = prepared-in-range in
       let new = allowed-in-range adjusts s in
       let below = source-below t in
-      (record { heads = m .heads; own = m .own; last = m .last; adjustment = below; unadjusted = λ e. none-is-some (sym e); phase = for-both _ (m .phase votes) new; marks = m .marks; kept = m .kept }, omega arith)
+      let own = m .kept (r .own) .below (h .own) in
+      let mine : SenderInRange (r .n) (withAdjuster (keptOf (prepared r a) (r .own)) c) =
+      record { start = own .start; vote = own .vote; serial = for-both _ (own .serial votes) (own .serial adjusts); latest = for-both _ (own .latest votes) (omega arith) } in
+      let kept = set-in-range (prepared r a .senders) (r .own) _ (h .own) mine (m .kept) in
+      (record { heads = m .heads; own = m .own; last = m .last; adjustment = below; unadjusted = λ e. none-is-some (sym e); phase = for-both _ (m .phase votes) new; early = for-both _ (m .early votes) (m .early adjusts); marks = m .marks; kept = kept }, omega arith)
 
   pub effect-in-range : AnswerInRange (r .n) (effect r a)
   effect-in-range = subst (AnswerInRange (r .n)) (sym (effect-split r a)) (send-in-range (allowed r a o))
 
 -- A STEP
 
+-- the test at the end of a step closes a phase with its mark, and the adjust phase only after the vote phase
+concluded-in-range : {n : ℕ} (tested : Bool) (t : Stepped) → AnswerInRange n t → AnswerInRange n (concluded tested t)
+unfolding mayClose
+concluded-in-range tested t (h, f) = (
+  record { heads = h .heads; own = h .own; last = h .last; adjustment = h .adjustment; unadjusted = h .unadjusted; phase = for-both _ (h .phase votes) (h .phase adjusts); early = for-both _ (with-mark (earlyNow votes tested (t .after)) (h .early votes)) (with-mark (earlyNow adjusts tested (t .after)) (h .early adjusts)); marks = record { confirmed = h .marks .confirmed; turn = h .marks .turn; adjusting = adjusting }; kept = h .kept },
+  f,
+)
+  where
+    with-mark : (b : Bool) {e c : Bool} → (e ≡ true → c ≡ true) → (b || e) ≡ true → (b || c) ≡ true
+    with-mark true i u = refl
+    with-mark false i u = i u
+
+    v : HeadRecord
+    v = closeEarly votes tested (t .after)
+
+    adjusting : (v .adjust .turn || closeEarly adjusts tested v .adjust .closed) ≡ true → v .vote .closed ≡ true
+    adjusting u =
+        or-cases (v .adjust .turn) _ u (λ a. after (or-first (v .adjust .turn) _ a))
+        (λ b. or-cases (tested && mayClose adjusts v) _ b (λ c. and-left (v .vote .closed) _ (and-left (v .vote .closed && not (v .adjust .closed)) _ (and-right tested _ c))) (λ c. after (or-second (v .adjust .turn) _ c)))
+      where
+        after : (v .adjust .turn || v .adjust .closed) ≡ true → v .vote .closed ≡ true
+        after w = or-second (tested && mayClose votes (t .after)) _ (h .marks .adjusting w)
+
+pub act-in-range : {r : HeadRecord} (a : Action) → InRange r → ActionInRange (r .n) a → isClosed r a ≡ false → AnswerInRange (r .n) (act r a)
+unfolding act
+act-in-range {r} a h i o = concluded-in-range (isTested r a) (effect r a) (effect-in-range a h i o)
+
+-- an action is taken as one that delivers the same
+taken-in-range : {n : ℕ} (r : HeadRecord) (a : Action) → ActionInRange n a → ActionInRange n (takenAs r a)
+taken-in-range {n} r a = subst (DeliveryInRange n) (sym (taken-delivery (taken-as r a)))
+
 last-in-range : {r : HeadRecord} {x : Reading} → InRange r → x .0 < 2 ^ 28 → InRange (withLast r x)
 last-in-range h b =
-    record { heads = h .heads; own = h .own; last = b; adjustment = h .adjustment; unadjusted = h .unadjusted; phase = for-both _ (h .phase votes) (h .phase adjusts); marks = h .marks; kept = h .kept }
+    record { heads = h .heads; own = h .own; last = b; adjustment = h .adjustment; unadjusted = h .unadjusted; phase = for-both _ (h .phase votes) (h .phase adjusts); early = for-both _ (h .early votes) (h .early adjusts); marks = h .marks; kept = h .kept }
 
 pub take-in-range : {r : HeadRecord} (x : Reading) (sent : Bool) (a : Action) → InRange r → x .0 < 2 ^ 28 → ActionInRange (r .n) a → AnswerInRange (r .n) (takeAction r x sent a)
 unfolding takeAction
 take-in-range {r} x sent a h b i =
     let refusal : InRange r × FrameInRange (r .n) NoFrame = (h, omega arith) in
     cond-elim (AnswerInRange (r .n)) (ltb (x .0) (r .last .0)) (λ _. refusal)
-    (λ _. cond-elim (AnswerInRange (r .n)) (not sent || isClosed r a) (λ _. refusal)
-    (λ o. effect-in-range a (last-in-range h b) i (closed-last r x a ∙ or-right (not sent) _ o)))
+    (λ _. cond-elim (AnswerInRange (r .n)) (not sent || isClosed r (takenAs r a)) (λ _. refusal)
+    (λ o. act-in-range (takenAs r a) (last-in-range h b) (taken-in-range r a i) (closed-last r x (takenAs r a) ∙ or-right (not sent) _ o)))
 
 -- what cause 6 lets pass
 pub input-in-range : (n : ℕ) (i : Input) → inputFits n i ≡ true → (i .reading < 2 ^ 28) × ActionInRange n (actionOf i)
@@ -299,14 +342,14 @@ step-in-range r i e =
 
 none-in-range : (n p : ℕ) → n ≤ 16 → KeptInRange n p (getD (replicate 16 noSender) p noSender)
 none-in-range n p b =
-    let none : SenderInRange noSender = record { start = lit< tt; vote = lit< tt; serial = for-both _ (omega arith) (omega arith) } in
-    record { below = λ l. subst SenderInRange (sym (getD-replicate 16 p noSender noSender (omega arith))) none; above = λ _ l. getD-replicate 16 p noSender noSender l }
+    let none : 0 < n → SenderInRange n noSender = λ l. record { start = lit< tt; vote = lit< tt; serial = for-both _ (omega arith) (omega arith); latest = for-both _ l l } in
+    record { below = λ l. subst (SenderInRange n) (sym (getD-replicate 16 p noSender noSender (omega arith))) (none (omega arith)); above = λ _ l. getD-replicate 16 p noSender noSender l }
 
 fresh-facts : (n f : ℕ) {q : ℕ} → headsFit n f ≡ true → q < n → InRange (fresh n f q)
 unfolding fresh
 fresh-facts n f e b =
     let heads = heads-fit n f e in
-    record { heads = heads; own = b; last = lit< tt; adjustment = lit< tt; unadjusted = λ _. refl; phase = for-both _ refl refl; marks = record { confirmed = λ t. t; turn = λ t. t; adjusting = λ t. t }; kept = λ p. none-in-range n p (heads .1) }
+    record { heads = heads; own = b; last = lit< tt; adjustment = lit< tt; unadjusted = λ _. refl; phase = for-both _ refl refl; early = for-both _ (λ t. t) (λ t. t); marks = record { confirmed = λ t. t; turn = λ t. t; adjusting = λ t. t }; kept = λ p. none-in-range n p (heads .1) }
 
 pub fresh-in-range : (n f q : ℕ) → headsFit n f ≡ true → q < n → recordInRange (fresh n f q) ≡ true
 fresh-in-range n f q e b = range-test (fresh-facts n f e b)
@@ -335,9 +378,9 @@ module _ {g : Setting} (fit : headsFit (g .n) (g .f) ≡ true) where
       grow : RunInRange g s → RunInRange g (e ∷ s)
       grow h =
           let n-is = fixed g v (e .entry .head) .n-is in
-          let i : ActionInRange (g .n) (t .action) = subst (DeliveryInRange (g .n)) (sym (t .asked .delivery-is)) (record { sender = t .sender-below; frame = h .frames _ _ _ }) in
-          let done = effect-in-range (t .action) (last-in-range (h .records _ (t .head-below)) (t .reading-below)) (subst (λ (n : ℕ). ActionInRange n (t .action)) (sym n-is) i) (closed-last _ _ (t .action) ∙ t .is-open) in
-          let x : AnswerInRange (g .n) (accepted (e .after) (e .frame)) = subst (AnswerInRange (g .n)) (sym (t .result)) (subst (λ (n : ℕ). AnswerInRange n (effect (baseOf g s e) (t .action))) n-is done) in
+          let i : ActionInRange (g .n) (t .action) = subst (DeliveryInRange (g .n)) (sym (delivery-at g t)) (record { sender = t .sender-below; frame = h .frames _ _ _ }) in
+          let done = act-in-range (t .action) (last-in-range (h .records _ (t .head-below)) (t .reading-below)) (subst (λ (n : ℕ). ActionInRange n (t .action)) (sym n-is) i) (closed-last _ _ (t .action) ∙ t .is-open) in
+          let x : AnswerInRange (g .n) (accepted (e .after) (e .frame)) = subst (AnswerInRange (g .n)) (sym (t .result)) (subst (λ (n : ℕ). AnswerInRange n (act (baseOf g s e) (t .action))) n-is done) in
           record {
             records = λ q. by-head (λ q. q < g .n → InRange (recordOf g (e ∷ s) q)) e q (λ _. rw (record-at g e s) (x .0)) (λ d b. rw (record-other g e s q d) (h .records q b));
             frames = λ a p k. or-else-in-range (frameSent s a p k) _ (h .frames a p k)

@@ -1,24 +1,26 @@
--- A round: an accepted sheet that keeps all eight premises. What the premises say at the first correct close of a phase,
--- and that nothing changes a correct head's choice from then on. All of it is said once, over the phase.
--- Main results: `first-close`, `reaches`, `same-choice`, `choice-stays`.
-use mathlib.Core.Path.{_≡_, refl, sym, _∙_, ap, subst}
+-- A round: an accepted sheet that keeps all eight premises. If no head closes a phase early: what the premises say at the
+-- first correct close of the phase, and that nothing changes a correct head's choice from then on. If a head does, the
+-- lemma of document 02 No. 4 says that all heads have its choice. All of it is said once, over the phase.
+-- Main results: `first-close`, `reaches`, `same-choice`, `agreed`.
+use mathlib.Core.Path.{_≡_, refl, sym, _∙_, ap}
 use mathlib.Core.Bool.{Bool, true, false, not, _&&_, _||_}
 use mathlib.Core.List.{List, [], _∷_}
 use Prim.Native.Nat.{ℕ, suc, _-_, _<_}
 use native.Mathlib.Omega.{arith}
-use lib.Dec.{eqb}
-use borrow.Author.Tests.{eqb-true, eqb-false, eq-eqb, ne-eqb, leb-true}
+use lib.Dec.{ltb, eqb}
+use borrow.Author.Tests.{eqb-true, eqb-false, eq-eqb, ne-eqb, leb-true, ltb-true, lt-ltb}
 use Rattle.protocol.specs.Base.{_⇒_, any, all, countBelow}
 use Rattle.protocol.specs.Types.{SomeNumber, Setting, Kept}
 use Rattle.protocol.specs.Words.{isCorrect}
 use Rattle.protocol.specs.Run.{Event, History, recordOf}
-use Rattle.protocol.specs.Premises.{takes, took, received, before, correctAll, correctTakes, premise1, premise2, premise3, premise4, premise5, premise6, premise7, premise8, premises, framesReached, votesReached, adjustsReached, noneBetween, firstBroken}
+use Rattle.protocol.specs.Premises.{takes, took, received, before, correctAll, correctTakes, correctCloses, premise1, premise2, premise3, premise4, premise5, premise6, premise7, premise8, premises, framesReached, votesReached, adjustsReached, noneBetween, firstBroken, isEarly}
 use Rattle.protocol.specs.Claim.{CorrectHead}
-use Rattle.protocol.proofs.Tests.{absurd-bool, cases, and-left, and-right, and-both, or-first, implied, not-true, eqb-same, all-below, count-some}
-use Rattle.protocol.proofs.Moments.{Earlier, now, later, earlier-past, any-grows, any-map, First, first-of, before-stays, find-after, each-at}
+use Rattle.protocol.proofs.Tests.{absurd-bool, cases, and-left, and-right, and-both, or-first, or-second, or-cases, implied, not-true, eqb-same, all-below, count-some, some-count}
+use Rattle.protocol.proofs.Moments.{Earlier, now, later, earlier-trans, earlier-past, any-grows, First, first-of, find-after, each-at}
 use Rattle.protocol.proofs.Effects.{Kind, votes, adjusts, delivery, closing, none-is-some, same-number}
 use Rattle.protocol.proofs.Valid.{Valid, valid-past, valid-taken, valid-earlier, Taken, Sheet, by-head, closed-took}
-use Rattle.protocol.proofs.Phases.{held, sent, isOver, held-other, Origin, own, reached, Turn, sends-none, sends-one, SendsOne, turn, agree}
+use Rattle.protocol.proofs.Phases.{held, sent, isOver, held-other, early-later, is-close, took-close, Origin, own, reached, Turn, sends-none, sends-one, SendsOne, turn, agree}
+use Rattle.protocol.proofs.Spoken.{all-hold, early-unanimous}
 
 pub record Round (g : Setting) (h : History) : Type 0 where
   pub sheet : Sheet g h
@@ -63,12 +65,6 @@ module _ {g : Setting} where
   pub correct-at : (p : ℕ → Bool) → correctAll g p ≡ true → {q : ℕ} → CorrectHead g q → p q ≡ true
   correct-at p e {q} c = implied (isCorrect g q) (p q) (all-below (g .n) (λ q. isCorrect g q ⇒ p q) e q (c .is-head)) (c .is-correct)
 
-  -- what a correct head took, a correct head took
-  pub took-correct : (a : ℕ) {q : ℕ} (s : History) → CorrectHead g q → took a q s ≡ true → any (correctTakes g a) s ≡ true
-  took-correct a {q} s c =
-      any-map (takes a q) (correctTakes g a) (λ e u. and-both (ap (isCorrect g) (eqb-true (e .entry .head) q (and-left (eqb (e .entry .head) q) _ u)) ∙ c .is-correct)
-      (and-right (eqb (e .entry .head) q) _ u)) s
-
 -- no delivery is a close
 apart : (k : Kind) (a : ℕ) → a ≡ delivery k → a ≡ closing k → ⊥
 apart votes a d c = omega arith
@@ -87,44 +83,67 @@ module _ {g : Setting} {h : History} (r : Round g h) where
       (x .0, record { is-head = x .1; is-correct = x .2 })
 
   -- premise 4
-  pub takes-all : {q : ℕ} → CorrectHead g q → (took 6 q h ≡ true) × (took 7 q h ≡ true) × (took 9 q h ≡ true)
+  pub closes : (k : Kind) {q : ℕ} → CorrectHead g q → (took (closing k) q h || isEarly g k h q) ≡ true
   unfolding premise4
-  takes-all {q} c =
-      let e = correct-at (λ q. took 6 q h && (took 7 q h && took 9 q h)) (r .p4) c in
-      let e2 = and-right (took 6 q h) _ e in
-      (and-left (took 6 q h) _ e, and-left (took 7 q h) _ e2, and-right (took 7 q h) _ e2)
+  closes k {q} c = go k
+    where
+      taken : ((took 6 q h || recordOf g h q .vote .early) && ((took 7 q h && took 9 q h) || recordOf g h q .adjust .early)) ≡ true
+      taken = correct-at (λ q. (took 6 q h || recordOf g h q .vote .early) && ((took 7 q h && took 9 q h) || recordOf g h q .adjust .early)) (r .p4) c
 
-  pub closes : (k : Kind) {q : ℕ} → CorrectHead g q → took (closing k) q h ≡ true
-  closes votes c = takes-all c .0
-  closes adjusts c = takes-all c .2
+      go : (k : Kind) → (took (closing k) q h || isEarly g k h q) ≡ true
+      go votes = and-left (took 6 q h || recordOf g h q .vote .early) _ taken
+      go adjusts =
+          or-cases (took 7 q h && took 9 q h) (recordOf g h q .adjust .early) (and-right (took 6 q h || recordOf g h q .vote .early) _ taken)
+          (λ u. or-first (took 9 q h) _ (and-right (took 7 q h) _ u)) (λ u. or-second (took 9 q h) _ u)
+
+  pub ends-closed : (k : Kind) {q : ℕ} → CorrectHead g q → isOver g k h q ≡ true
+  ends-closed k {q} c = closed-took g k (r .sheet .valid) q ∙ closes k c
 
 module _ {g : Setting} {h : History} (r : Round g h) (k : Kind) where
+  -- a correct close by entry, at a head still open
   abbrev pub isClose : Event → Bool
-  isClose = correctTakes g (closing k)
+  isClose = correctCloses g k
 
-  -- the moment before the first correct close of the phase
+  -- the moment before the first of them
   abbrev pub moment : History
   moment = before isClose h
 
-  pub has-close : any isClose h ≡ true
-  has-close = let x = some-correct r in took-correct (closing k) h (x .1) (closes r k (x .1))
+  -- no head closes the phase early
+  abbrev pub Late : Type 0
+  Late = (q : ℕ) → q < g .n → isEarly g k h q ≡ false
 
-  pub first-close : First isClose h
-  first-close = first-of isClose h has-close
+-- THE PHASE IS CLOSED BY ENTRIES ALONE
+module _ {g : Setting} {h : History} (r : Round g h) (k : Kind) (late : Late r k) where
+  pub never-early : {s : History} → Earlier s h → (q : ℕ) → q < g .n → isEarly g k s q ≡ false
+  never-early {s} x q l = cases (isEarly g k s q) (λ u. absurd-bool (early-later g k x (r .sheet .valid) q u) (late q l)) (λ u. u)
 
-  pub moment-earlier : Earlier moment h
+  -- so a close that a correct head has taken is one
+  took-it : {s : History} {q : ℕ} → Earlier s h → CorrectHead g q → took (closing k) q s ≡ true → any (isClose r k) s ≡ true
+  took-it {q = q} x c = took-close g k (valid-earlier x (r .sheet .valid)) q (c .is-correct) (never-early x q (c .is-head))
+
+  takes-close : {q : ℕ} → CorrectHead g q → took (closing k) q h ≡ true
+  takes-close {q} c = or-cases (took (closing k) q h) (isEarly g k h q) (closes r k c) (λ u. u) (λ u. absurd-bool u (late q (c .is-head)))
+
+  pub has-close : any (isClose r k) h ≡ true
+  has-close = let x = some-correct r in took-it now (x .1) (takes-close (x .1))
+
+  pub first-close : First (isClose r k) h
+  first-close = first-of (isClose r k) h has-close
+
+  pub moment-earlier : Earlier (moment r k) h
   moment-earlier = earlier-past (first-close .there)
 
-  pub valid-moment : Valid g moment
+  pub valid-moment : Valid g (moment r k)
   valid-moment = valid-earlier moment-earlier (r .sheet .valid)
 
   -- until then no correct head has closed
-  pub none-closed : {s : History} → Earlier s moment → {q : ℕ} → CorrectHead g q → took (closing k) q s ≡ false
+  none-closed : {s : History} → Earlier s (moment r k) → {q : ℕ} → CorrectHead g q → took (closing k) q s ≡ false
   none-closed {s} x {q} c =
-      cases (took (closing k) q s) (λ t. absurd-bool (any-grows isClose x (took-correct (closing k) s c t)) (first-close .none-before)) (λ t. t)
+      cases (took (closing k) q s) (λ t. absurd-bool (any-grows (isClose r k) x (took-it (earlier-trans x moment-earlier) c t)) (first-close .none-before)) (λ t. t)
 
-  pub still-open : {s : History} → Earlier s moment → {q : ℕ} → CorrectHead g q → isOver g k s q ≡ false
-  still-open x {q} c = closed-took g k (valid-earlier x valid-moment) q ∙ none-closed x c
+  pub still-open : {s : History} → Earlier s (moment r k) → {q : ℕ} → CorrectHead g q → isOver g k s q ≡ false
+  still-open {s} x {q} c =
+      closed-took g k (valid-earlier x valid-moment) q ∙ rw (none-closed x c) (never-early (earlier-trans x moment-earlier) q (c .is-head))
 
   -- premises 5 and 7: by then every frame of a correct head reached the other correct heads
   reached-at : (s : History) (p : ℕ) → framesReached g (delivery k) (sent g k s p) s p ≡ true → (j : ℕ) → j < sent g k s p
@@ -136,42 +155,45 @@ module _ {g : Setting} {h : History} (r : Round g h) (k : Kind) where
 
 -- premises 5 and 7 at their moments
 module _ {g : Setting} {h : History} (r : Round g h) where
-  pub votes-reached : {q : ℕ} → CorrectHead g q
+  pub votes-reached : Late r votes → {q : ℕ} → CorrectHead g q
       → ((took 5 q (moment r votes) || (took 1 q (moment r votes) && (took 3 q (moment r votes) && took 4 q (moment r votes)))) ≡ true)
       × ((took 1 q (moment r votes) ⇒ correctAll g (λ p. received 2 q 0 p (moment r votes))) ≡ true)
       × (framesReached g 5 (sent g votes (moment r votes) q) (moment r votes) q ≡ true)
   unfolding premise5 votesReached
-  votes-reached {q} c =
+  votes-reached late {q} c =
       let s = moment r votes in
       let e = correct-at (λ p. (took 5 p s || (took 1 p s && (took 3 p s && took 4 p s))) && ((took 1 p s ⇒ correctAll g (λ q. received 2 p 0 q s)) && framesReached g 5 (recordOf g s p .vote .sent) s p))
-      (implied (any (correctTakes g 6) h) _ (r .p5) (has-close r votes)) c in
+      (implied (any (correctCloses g votes) h) _ (r .p5) (has-close r votes late)) c in
       let e2 = and-right (took 5 q s || (took 1 q s && (took 3 q s && took 4 q s))) _ e in (
         and-left (took 5 q s || (took 1 q s && (took 3 q s && took 4 q s))) _ e,
         and-left (took 1 q s ⇒ correctAll g (λ p. received 2 q 0 p s)) _ e2,
         and-right (took 1 q s ⇒ correctAll g (λ p. received 2 q 0 p s)) _ e2,
       )
 
-  pub adjusts-reached : {q : ℕ} → CorrectHead g q → (took 7 q (moment r adjusts) ≡ true) × (framesReached g 8 (sent g adjusts (moment r adjusts) q) (moment r adjusts) q ≡ true)
+  pub adjusts-reached : Late r adjusts → {q : ℕ} → CorrectHead g q → (took 7 q (moment r adjusts) ≡ true) × (framesReached g 8 (sent g adjusts (moment r adjusts) q) (moment r adjusts) q ≡ true)
   unfolding premise7 adjustsReached
-  adjusts-reached {q} c =
+  adjusts-reached late {q} c =
       let s = moment r adjusts in
-      let e = correct-at (λ p. took 7 p s && framesReached g 8 (recordOf g s p .adjust .sent) s p) (implied (any (correctTakes g 9) h) _ (r .p7) (has-close r adjusts)) c in
-      (and-left (took 7 q s) _ e, and-right (took 7 q s) _ e)
+      let e = correct-at (λ p. (took 7 p s || recordOf g s p .adjust .early) && framesReached g 8 (recordOf g s p .adjust .sent) s p) (implied (any (correctCloses g adjusts) h) _ (r .p7) (has-close r adjusts late)) c in (
+        or-cases (took 7 q s) (recordOf g s q .adjust .early) (and-left (took 7 q s || recordOf g s q .adjust .early) _ e) (λ u. u)
+            (λ u. absurd-bool u (never-early r adjusts late (moment-earlier r adjusts late) q (c .is-head))),
+        and-right (took 7 q s || recordOf g s q .adjust .early) _ e,
+      )
 
-  all-reached : (k : Kind) {p : ℕ} → CorrectHead g p → framesReached g (delivery k) (sent g k (moment r k) p) (moment r k) p ≡ true
-  all-reached votes c = votes-reached c .2
-  all-reached adjusts c = adjusts-reached c .1
+  all-reached : (k : Kind) → Late r k → {p : ℕ} → CorrectHead g p → framesReached g (delivery k) (sent g k (moment r k) p) (moment r k) p ≡ true
+  all-reached votes late c = votes-reached late c .2
+  all-reached adjusts late c = adjusts-reached late c .1
 
-module _ {g : Setting} {h : History} (r : Round g h) (k : Kind) where
+module _ {g : Setting} {h : History} (r : Round g h) (k : Kind) (late : Late r k) where
   pub reaches : {p q : ℕ} → CorrectHead g p → CorrectHead g q → eqb q p ≡ false → (j : ℕ) → j < sent g k (moment r k) p → received (delivery k) p j q (moment r k) ≡ true
-  reaches {p} cp cq d j l = reached-at r k (moment r k) p (all-reached r k cp) j l cq d
+  reaches {p} cp cq d j l = reached-at r k late (moment r k) p (all-reached r k late cp) j l cq d
 
   -- (b) two correct heads that have a choice then have the same
   pub same-choice : {p q : ℕ} → CorrectHead g p → CorrectHead g q → (c w : ℕ) → held g k (moment r k) p ≡ SomeNumber c → held g k (moment r k) q ≡ SomeNumber w → c ≡ w
   same-choice {p} {q} cp cq c w hp hq =
       cases (eqb p q) (λ t. same-number (sym hp ∙ ap (held g k (moment r k)) (eqb-true p q t) ∙ hq))
-      (λ d. agree g k (r .sheet .at-most-16) (valid-moment r k) p q c w hp hq
-      (reaches cp cq (ne-eqb q p (λ e. eqb-false p q d (sym e)))) (reaches cq cp d) (still-open r k now cp) (still-open r k now cq))
+      (λ d. agree g k (r .sheet .at-most-16) (valid-moment r k late) p q c w hp hq
+      (reaches cp cq (ne-eqb q p (λ e. eqb-false p q d (sym e)))) (reaches cq cp d) (still-open r k late now cp) (still-open r k late now cq))
 
   -- premises 6 and 8: a frame that reaches a correct head after the first correct close finds it closed
   none-between : noneBetween g k h ≡ true
@@ -186,21 +208,20 @@ module _ {g : Setting} {h : History} (r : Round g h) (k : Kind) where
   unfolding noneBetween
   finds-closed {s} e x begun c a =
       closed-took g k (valid-earlier (earlier-past x) (r .sheet .valid)) (e .entry .head)
-      ∙ cases (took (closing k) (e .entry .head) s) (λ u. u)
+      ∙ cases (took (closing k) (e .entry .head) s) (λ u. or-first (took (closing k) (e .entry .head) s) _ u)
       (λ u. let open-yet : took (closing k) (e .entry .head) (e ∷ s) ≡ false = rw (eqb-same (e .entry .head), ne-eqb (e .entry .action) (closing k) (apart k (e .entry .action) a)) u in
-      let b = find-after (takes (closing k) (e .entry .head)) x (closes r k c) open-yet in
-      let is : b .event .entry .head ≡ e .entry .head = eqb-true _ _ (and-left (eqb (b .event .entry .head) (e .entry .head)) _ (b .holds)) in
-      let closing-it : isClose r k (b .event) ≡ true = and-both (ap (isCorrect g) is ∙ c .is-correct) (and-right (eqb (b .event .entry .head) (e .entry .head)) _ (b .holds)) in
+      let b = find-after (takes (closing k) (e .entry .head)) x (takes-close r k late c) open-yet in
+      let closing-it = is-close g k (b .event) (b .past) (e .entry .head) (c .is-correct) (b .holds) (never-early r k late (b .there) (e .entry .head) (c .is-head)) in
       let inner = implied (isClose r k (b .event)) _ (each-at _ none-between (b .there)) closing-it in
       let here = implied (correctTakes g (delivery k) e) _ (each-at _ inner (b .since)) (and-both (c .is-correct) (eq-eqb _ _ a)) in
       absurd-bool begun (not-true here))
 
   -- (c) A CHOICE THAT EVERY CORRECT HEAD HAS AT THE FIRST CLOSE STAYS
   module _ (has : (q : ℕ) → CorrectHead g q → (c : ℕ) × (held g k (moment r k) q ≡ SomeNumber c)) where
-    pub chosen : ℕ
+    chosen : ℕ
     chosen = has (some-correct r .0) (some-correct r .1) .0
 
-    pub Settled : History → Type 0
+    Settled : History → Type 0
     Settled s = (q : ℕ) → CorrectHead g q → held g k s q ≡ SomeNumber chosen
 
     settled-first : Settled (moment r k)
@@ -228,18 +249,31 @@ module _ {g : Setting} {h : History} (r : Round g h) (k : Kind) where
     settled-after : {s : History} (b : Event) → isClose r k b ≡ true → Earlier (b ∷ moment r k) s → Earlier s h → Settled s
     settled-after b close now x =
         let v = valid-earlier x (r .sheet .valid) in
-        settled-step settled-first (valid-taken v) (valid-past v) (λ c a. absurd (apart k _ a (eqb-true _ _ (and-right (isCorrect g (b .entry .head)) _ close))))
+        settled-step settled-first (valid-taken v) (valid-past v)
+        (λ c a. absurd (apart k _ a (eqb-true _ _ (and-right (isCorrect g (b .entry .head)) _ (and-left (correctTakes g (closing k) b) _ close)))))
     settled-after b close (later {e = e} y) x =
         let v = valid-earlier x (r .sheet .valid) in
         settled-step (settled-after b close y (earlier-past x)) (valid-taken v) (valid-past v)
         (finds-closed e x (any-grows (isClose r k) y (or-first (isClose r k b) _ close)))
 
-    pub choice-at-moment : {q : ℕ} → CorrectHead g q → held g k (moment r k) q ≡ SomeNumber chosen
-    unfolding Settled
-    choice-at-moment {q} c = settled-first q c
+    -- so all end with it
+    settled-end : Settled h
+    settled-end = let f = first-close r k late in settled-after (f .event) (f .holds) (f .there) now
 
-    pub choice-stays : {s : History} → Earlier s h → any (isClose r k) s ≡ true → {q : ℕ} → CorrectHead g q → held g k s q ≡ SomeNumber chosen
-    unfolding Settled
-    choice-stays {s} x begun {q} c =
-        let f = first-of (isClose r k) s begun in
-        settled-after (f .event) (f .holds) (subst (λ (m : History). Earlier (f .event ∷ m) s) (sym (before-stays (isClose r k) x begun)) (f .there)) x q c
+-- ALL CORRECT HEADS END WITH THE SAME CHOICE
+
+pub record Agreed (g : Setting) (h : History) (k : Kind) : Type 0 where
+  pub choice : ℕ
+  pub holds : {q : ℕ} → CorrectHead g q → held g k h q ≡ SomeNumber choice
+
+module _ {g : Setting} {h : History} (r : Round g h) (k : Kind) where
+  -- if a head has closed early, by the lemma; else by the closes, at the first of which every correct head has one
+  pub agreed : ((late : Late r k) (q : ℕ) → CorrectHead g q → (c : ℕ) × (held g k (moment r k) q ≡ SomeNumber c)) → Agreed g h k
+  unfolding Settled
+  agreed has =
+      cases (ltb 0 (countBelow (g .n) (isEarly g k h)))
+      (λ t. let e = count-some (g .n) (isEarly g k h) (ltb-true 0 _ t) in
+      let u = early-unanimous g k (r .sheet .at-most-16) (r .sheet .valid) (e .0) (e .2) in
+      record { choice = u .0; holds = λ {q} c. all-hold g k (r .sheet .valid) (u .1) q (c .is-head) })
+      (λ t. let late : Late r k = λ q l. cases (isEarly g k h q) (λ u. absurd-bool (lt-ltb 0 _ (some-count (g .n) (isEarly g k h) q l u)) t) (λ u. u) in
+      record { choice = chosen r k late (has late); holds = λ {q} c. settled-end r k late (has late) q c })

@@ -1,6 +1,6 @@
 -- A run, one entry on; and the frames that were sent, told by their sender's record: its start by the mark "start sent", its votes
 -- and adjusts by how many it sent, since their serials count them.
--- Main results: `goes-on`, `stops`, `stays-stopped`, `does-effect`; `start-sent`, `sent-below`, `sent-now`, `sent-before`.
+-- Main results: `goes-on`, `stops`, `stays-stopped`, `does-act`; `start-sent`, `sent-below`, `sent-now`, `sent-before`.
 use mathlib.Core.Path.{_≡_, refl, sym, _∙_, ap, subst}
 use mathlib.Core.Bool.{Bool, true, false, cond, not, _&&_, _||_}
 use mathlib.Core.List.{List, [], _∷_}
@@ -12,13 +12,13 @@ use Rattle.protocol.specs.Types.{OptNumber, NoNumber, SomeNumber, Phase,
 use Rattle.protocol.specs.Types.{Action, Look, StartSent, StartDelivered, StartConfirmed, VoteTurn, VoteDelivered, VoteClose, AdjustTurn, AdjustDelivered, AdjustClose}
 use Rattle.protocol.specs.Words.{hasSender, settingAt, placeOf, entryAt, entryFitsAt}
 use Rattle.protocol.specs.Record.{isNumber, fresh}
-use Rattle.protocol.specs.Step.{withLast, vote, adjust, mayLead, mayAdjust, outranks, effect, isClosed, takeAction, actionOf}
+use Rattle.protocol.specs.Step.{withLast, vote, adjust, mayLead, mayAdjust, outranks, act, takenAs, isClosed, takeAction, actionOf}
 use Rattle.protocol.specs.Run.{Event, History, recordOf, isDeliveredBy, orElse, frameSent, frameOf, isFrame, inputOf, lastTime, stepEntry, stopped, ran, andThen, runOf}
 use Rattle.protocol.proofs.Tests.{absurd-bool, cases, cond-elim, eqb-same}
 use Rattle.protocol.proofs.Effects.{Kind, votes, adjusts, phaseOf, delivery, number, named, some-number, passedOver, prepared, Sending, nothing, voting, adjusting, send, sendingOf, prepared-sent, phase-last}
 use Rattle.protocol.proofs.Effects as Effects
 use Rattle.protocol.proofs.Fits.{not-accepted}
-use Rattle.protocol.proofs.Valid.{baseOf, Taken, Valid, start, more, record-other, by-head, of-effect, frame-fits, started-took}
+use Rattle.protocol.proofs.Valid.{baseOf, Taken, Valid, start, more, record-other, by-head, of-effect, number-at, frame-fits, started-took}
 use Rattle.protocol.proofs.Phases.{orNumber, names, sent, names-other, sent-other, Turn, sends-none, sends-one, turn, serial-below}
 
 -- THE RUN, ONE ENTRY ON
@@ -43,19 +43,22 @@ stays-stopped ws i (suc d) c p h =
     let m : suc (d + i) ≡ suc d + i = omega arith in
     subst (λ (m : ℕ). runOf ws m ≡ stopped c p) m (rw (stays-stopped ws i d c p h) refl)
 
--- what an accepted entry does is its action's effect
-pub does-effect : (g : Setting) (s : History) (fits : Bool) (e : Entry) → stepEntry g s fits e .verdict ≡ Accepted
-    → stepEntry g s fits e ≡ effect (withLast (recordOf g s (e .head)) (e .reading)) (actionOf (inputOf e (frameOf s e)))
+-- what an accepted entry does is what its action does, or a look where that is without effect
+abbrev asked : Setting → History → Entry → Action
+asked g s e = takenAs (recordOf g s (e .head)) (actionOf (inputOf e (frameOf s e)))
+
+pub does-act : (g : Setting) (s : History) (fits : Bool) (e : Entry) → stepEntry g s fits e .verdict ≡ Accepted
+    → stepEntry g s fits e ≡ act (withLast (recordOf g s (e .head)) (e .reading)) (asked g s e)
 unfolding stepEntry takeAction
-does-effect g s fits e =
+does-act g s fits e =
     cond-elim Does (not fits) (λ _. not-accepted _)
     (λ _. cond-elim Does (ltb (e .time .0) (lastTime s)) (λ _. not-accepted _)
     (λ _. cond-elim Does (ltb (e .reading .0) (recordOf g s (e .head) .last .0)) (λ _. not-accepted _)
-    (λ _. cond-elim Does (not (not (hasSender (e .action)) || isFrame (frameOf s e)) || isClosed (recordOf g s (e .head)) (actionOf (inputOf e (frameOf s e))))
+    (λ _. cond-elim Does (not (not (hasSender (e .action)) || isFrame (frameOf s e)) || isClosed (recordOf g s (e .head)) (asked g s e))
     (λ _. not-accepted _) (λ _ _. refl))))
   where
     Does : Stepped → Type 0
-    Does t = t .verdict ≡ Accepted → t ≡ effect (withLast (recordOf g s (e .head)) (e .reading)) (actionOf (inputOf e (frameOf s e)))
+    Does t = t .verdict ≡ Accepted → t ≡ act (withLast (recordOf g s (e .head)) (e .reading)) (asked g s e)
 
 -- A START SENT, BY THE MARK
 
@@ -111,7 +114,7 @@ module _ (g : Setting) where
       (λ d. sent-before e s 2 p k (rw d refl) ∙ start-sent v p k ∙ rw (record-other g e s p d) refl)
     where
       sends : isDeliveredBy 2 k (e .frame) ≡ eqb (e .entry .action) 1
-      sends = of-effect g (λ x. isDeliveredBy 2 k (x .frame) ≡ eqb (e .entry .action) 1) t (start-frame (baseOf g s e) _ (t .action) k ∙ ap (λ (a : ℕ). eqb a 1) (t .asked .number-is))
+      sends = of-effect g (λ x. isDeliveredBy 2 k (x .frame) ≡ eqb (e .entry .action) 1) t (start-frame (baseOf g s e) _ (t .action) k ∙ number-at g t 1 refl)
 
       started-after : recordOf g (e ∷ s) (e .entry .head) .started ≡ (eqb (e .entry .action) 1 || recordOf g s (e .entry .head) .started)
       started-after = started-took g (more t v) (e .entry .head) ∙ rw (eqb-same (e .entry .head), started-took g v (e .entry .head)) refl

@@ -9,20 +9,20 @@ use native.Mathlib.Omega.{arith}
 use lib.Dec.{leb, eqb}
 use lib.ListN.{set}
 use borrow.Author.Tests.{eqb-true, eq-eqb, leb-false}
-use Rattle.protocol.specs.Types.{SomeReading, NoNumber, SomeNumber, Sender, HeadRecord, Setting, Frame, NoFrame, Start, Vote, Adjust}
+use Rattle.protocol.specs.Types.{SomeReading, NoNumber, SomeNumber, Sender, HeadRecord, Setting, Stepped, Frame, NoFrame, Start, Vote, Adjust}
 use Rattle.protocol.specs.Types.{Action, Look, StartSent, StartDelivered, StartConfirmed, VoteTurn, VoteDelivered, VoteClose, AdjustTurn, AdjustDelivered, AdjustClose}
 use Rattle.protocol.specs.Words.{hasSender, headsFit}
 use Rattle.protocol.specs.Record.{isReading, keptOf, startOf, fresh}
-use Rattle.protocol.specs.Step.{vote, adjust, startsHeld, mayLead}
+use Rattle.protocol.specs.Step.{vote, adjust, startsHeld, mayLead, concluded, isTested}
 use Rattle.protocol.specs.Run.{Event, History, recordOf, frameSent, frameOf}
 use Rattle.protocol.specs.Premises.{takes, receives, took, received, lastStart}
 use Rattle.protocol.proofs.Tests.{absurd-bool, cases, and-left, and-right, and-both, or-second, or-right, eqb-same, count-mono}
 use Rattle.protocol.proofs.Moments.{Earlier, now, later}
-use Rattle.protocol.proofs.Effects.{votes, adjusts, deliveredBy, withSenders, ignored, keptAfter, column-kept, prepared, Sending, nothing, voting, adjusting, send, sendingOf, none-is-some}
+use Rattle.protocol.proofs.Effects.{votes, adjusts, deliveredBy, withSenders, set-keeps, ignored, keptAfter, column-kept, prepared, Sending, nothing, voting, adjusting, send, sendingOf, none-is-some, earlyNow}
 use Rattle.protocol.proofs.Effects as Effects
-use Rattle.protocol.proofs.Valid.{baseOf, Taken, Valid, start, more, record-other, by-head, invariant, keptNext, kept-at, closed-took, confirmed-took}
+use Rattle.protocol.proofs.Valid.{baseOf, Taken, Valid, start, more, record-other, by-head, invariant, keptNext, kept-at, confirmed-took}
 use Rattle.protocol.proofs.Ranges.{run-in-range}
-use Rattle.protocol.proofs.Phases.{held, names, names-other, Origin, own, reached, turn, frame-new, last-frame, held-sent}
+use Rattle.protocol.proofs.Phases.{held, names, names-other, Origin, own, reached, turn, was-open, frame-new, last-frame, held-sent}
 
 -- a frame that action 2 delivers is a start
 is-start : (x : Frame) → deliveredBy x ≡ 2 → x ≡ Start
@@ -57,7 +57,8 @@ unfolding vote adjust startsHeld
 waiting-send nothing m w = w
 waiting-send Effects.Sending.start m w = w
 waiting-send (voting c) m w = λ a b h. none-is-some (sym h)
-waiting-send (adjusting c x) m w = w
+waiting-send (adjusting c x) m w =
+    waiting-same m (send (adjusting c x) m .after) refl refl (λ h. h) (λ h. h) refl (λ v. set-keeps (λ z. z .start) (m .senders) (m .own) v _ refl) w
 
 -- after 2 and 4 a head that does not vote waits
 waiting-lead : (m : HeadRecord) (c : ℕ) → Waiting (send (cond (mayLead m) (voting c) nothing) m .after)
@@ -95,6 +96,11 @@ waiting-effect r (AdjustDelivered p k c x) w =
     (waiting-same r (prepared r (AdjustDelivered p k c x)) refl refl (λ h. h) (λ h. h) refl (λ v. column-kept (λ z. z .start) r p (Adjust k c x) v refl) w)
 waiting-effect r AdjustClose w = waiting-send nothing (prepared r AdjustClose) w
 
+-- the test at the end of a step opens nothing
+waiting-concluded : (tested : Bool) (t : Stepped) → Waiting (t .after) → Waiting (concluded tested t .after)
+unfolding startsHeld
+waiting-concluded tested t w a b c = w a (or-right (earlyNow votes tested (t .after)) _ b) c
+
 -- the delivery that gave a start reading
 pub record StartAt (g : Setting) (s : History) (q v : ℕ) : Type 0 where
   pub event : Event
@@ -106,7 +112,7 @@ pub record StartAt (g : Setting) (s : History) (q v : ℕ) : Type 0 where
 
 module _ (g : Setting) (small : g .n ≤ 16) where
   start-at : {s : History} {e : Event} (t : Taken g s e) → Valid g s → (v : ℕ) → startOf (recordOf g (e ∷ s) (e .entry .head)) v ≡ keptNext g s e v .start
-  start-at t v w = kept-at g (λ k. k .start) (λ k x. refl) t v small w
+  start-at t v w = kept-at g (λ k. k .start) (λ k x c a. refl) t v small w
 
   -- action 2 is what delivers a start
   delivers-start : {s : History} {e : Event} → Taken g s e → e .entry .action ≡ 2 → frameOf s (e .entry) ≡ Start
@@ -144,32 +150,36 @@ module _ (g : Setting) (small : g .n ≤ 16) where
       go false false u = refl
       go false true u = start-kept (baseOf g s e) (e .entry .sender) x (other u) ∙ rw (eqb-true _ v u) refl
 
-  -- the start reading of v is that of v's last delivered start, until the adjust close
-  pub start-found : {s : History} → Valid g s → (q v : ℕ) → received 2 v 0 q s ≡ true → recordOf g s q .adjust .closed ≡ false → StartAt g s q v
+  -- the start reading of v is that of v's last delivered start, until the adjust close: after an event that found the adjust
+  -- phase open, if it was so before
+  start-step : {s : History} {e : Event} → Taken g s e → Valid g s → (q v : ℕ) → received 2 v 0 q (e ∷ s) ≡ true → recordOf g s q .adjust .closed ≡ false
+      → (received 2 v 0 q s ≡ true → StartAt g s q v) → StartAt g (e ∷ s) q v
   unfolding lastStart
-  start-found start q v = λ h o. absurd-bool h refl
-  start-found (more {e = e} {s = s} t w) q v =
-      by-head (λ q. received 2 v 0 q (e ∷ s) ≡ true → recordOf g (e ∷ s) q .adjust .closed ≡ false → StartAt g (e ∷ s) q v) e q
-      (λ h o. go (receives 2 v 0 (e .entry .head) e) refl h (start-found w (e .entry .head) v) (was-open o))
-      (λ d h o. on (ap (λ (r : HeadRecord). startOf r v) (record-other g e s q d)) (rw d refl)
-      (start-found w q v (rw d at h) (ap (λ (r : HeadRecord). r .adjust .closed) (sym (record-other g e s q d)) ∙ o)))
+  start-step {s} {e} t w q v =
+      by-head (λ q. received 2 v 0 q (e ∷ s) ≡ true → recordOf g s q .adjust .closed ≡ false → (received 2 v 0 q s ≡ true → StartAt g s q v) → StartAt g (e ∷ s) q v) e q
+      (λ h o ih. go (receives 2 v 0 (e .entry .head) e) refl h ih o)
+      (λ d h o ih. on (ap (λ (r : HeadRecord). startOf r v) (record-other g e s q d)) (rw d refl) (ih (rw d at h)))
     where
-      was-open : recordOf g (e ∷ s) (e .entry .head) .adjust .closed ≡ false → recordOf g s (e .entry .head) .adjust .closed ≡ false
-      was-open o = closed-took g adjusts w (e .entry .head) ∙ or-right (takes 9 (e .entry .head) e) _ (sym (closed-took g adjusts (more t w) (e .entry .head)) ∙ o)
-
       on : {q : ℕ} → startOf (recordOf g (e ∷ s) q) v ≡ startOf (recordOf g s q) v → receives 2 v 0 q e ≡ false → StartAt g s q v → StartAt g (e ∷ s) q v
       on eq none b = record { event = b .event; past = b .past; there = later (b .there); is-start = b .is-start; reading-is = eq ∙ b .reading-is; time-is = rw none (b .time-is) }
 
       go : (b : Bool) → receives 2 v 0 (e .entry .head) e ≡ b → received 2 v 0 (e .entry .head) (e ∷ s) ≡ true
-          → (received 2 v 0 (e .entry .head) s ≡ true → recordOf g s (e .entry .head) .adjust .closed ≡ false → StartAt g s (e .entry .head) v)
-          → recordOf g s (e .entry .head) .adjust .closed ≡ false → StartAt g (e ∷ s) (e .entry .head) v
+          → (received 2 v 0 (e .entry .head) s ≡ true → StartAt g s (e .entry .head) v) → recordOf g s (e .entry .head) .adjust .closed ≡ false → StartAt g (e ∷ s) (e .entry .head) v
       go true u h ih o = record { event = e; past = s; there = now; is-start = u; reading-is = start-new t w v u o; time-is = rw u refl }
-      go false u h ih o = on (start-same t w v u) u (ih (rw u at h) o)
+      go false u h ih o = on (start-same t w v u) u (ih (rw u at h))
+
+  pub start-found : {s : History} → Valid g s → (q v : ℕ) → received 2 v 0 q s ≡ true → recordOf g s q .adjust .closed ≡ false → StartAt g s q v
+  start-found start q v h o = absurd-bool h refl
+  start-found (more t w) q v h o = let before = was-open g adjusts t w q o in start-step t w q v h before (λ i. start-found w q v i before)
+
+  -- an event that closes the adjust phase has its effect first
+  pub start-after : {s : History} {e : Event} → Taken g s e → Valid g s → (q v : ℕ) → received 2 v 0 q (e ∷ s) ≡ true → recordOf g s q .adjust .closed ≡ false → StartAt g (e ∷ s) q v
+  start-after t w q v h o = start-step t w q v h o (λ i. start-found w q v i o)
 
   -- every head waits so at every moment
   pub waits : {s : History} → Valid g s → (q : ℕ) → Waiting (recordOf g s q)
   unfolding fresh startsHeld
-  waits = invariant g (λ q r. Waiting r) (λ q a. absurd-bool a refl) (λ s e t v w. waiting-effect (baseOf g s e) (t .action) w)
+  waits = invariant g (λ q r. Waiting r) (λ q a. absurd-bool a refl) (λ s e t v w. waiting-concluded (isTested (baseOf g s e) (t .action)) (send (sendingOf (baseOf g s e) (t .action)) (prepared (baseOf g s e) (t .action))) (waiting-effect (baseOf g s e) (t .action) w))
 
   -- (d) WHOEVER IS VOTED FOR HAS CONFIRMED ITS START
   module _ (fit : headsFit (g .n) (g .f) ≡ true) where

@@ -10,6 +10,7 @@ use lib.Dec.{eqb}
 use lib.ListN.{length, getD}
 use borrow.Author.Tests.{eqb-true, eqb-false, eq-eqb}
 use Rattle.protocol.specs.Base.{_⇒_, all, allBelow, countBelow}
+use Rattle.protocol.specs.Record.{markNumber}
 
 pub absurd-bool {ℓ} : {A : Type ℓ} {b : Bool} → b ≡ true → b ≡ false → A
 absurd-bool p q = absurd (let z : _≡_ {A = ℕ} 0 1 = cc in omega arith)
@@ -102,6 +103,11 @@ pub below-all : (n : ℕ) (p : ℕ → Bool) → ((k : ℕ) → k < n → p k �
 below-all zero p h = refl
 below-all (suc n) p h = and-both (h n (omega arith)) (below-all n p (λ k l. h k (omega arith)))
 
+-- two tests that agree below the bound
+pub all-same : (n : ℕ) (p r : ℕ → Bool) → ((q : ℕ) → q < n → p q ≡ r q) → allBelow n p ≡ allBelow n r
+all-same zero p r e = refl
+all-same (suc n) p r e = ap₂ (λ (a b : Bool). a && b) (e n (omega arith)) (all-same n p r (λ q l. e q (omega arith)))
+
 -- a count of numbers that all pass is that of all numbers
 pub count-all : (n : ℕ) (p : ℕ → Bool) → ((k : ℕ) → k < n → p k ≡ true) → countBelow n p ≡ n
 count-all zero p h = refl
@@ -165,3 +171,8 @@ same-list [] [] e = refl
 same-list [] (y ∷ m) e = absurd-bool e refl
 same-list (x ∷ l) [] e = absurd-bool e refl
 same-list (x ∷ l) (y ∷ m) e = ap₂ _∷_ (eqb-true x y (and-left (eqb x y) _ e)) (same-list l m (and-right (eqb x y) _ e))
+
+-- a mark as a number is 1 where it is set
+pub is-1 : (b : Bool) → eqb (markNumber b 1) 1 ≡ b
+is-1 true = refl
+is-1 false = refl

@@ -16,50 +16,52 @@ use Rattle.protocol.specs.Record.{readingOr0, numberOr0, chosenStart, ou
 use Rattle.protocol.specs.Run.{Event, History, recordOf, ran, runSheet}
 use Rattle.protocol.specs.Premises.{takes, receives, took, isSteady, lastStart, premises, firstBroken, judge}
 use Rattle.protocol.specs.Claim.{CorrectHead, endingOf, LookedAt, shown, apart, sinceStart, Agreement, ThirdPoint}
-use Rattle.protocol.proofs.Tests.{cases, and-left, and-right, or-first}
-use Rattle.protocol.proofs.Moments.{Earlier, now, later, earlier-trans, earlier-past, earlier-append, later-moment}
+use Rattle.protocol.proofs.Tests.{absurd-bool, cases, and-left, and-right, or-first}
+use Rattle.protocol.proofs.Moments.{Earlier, now, later, earlier-trans, earlier-past, earlier-append, later-event}
 use Rattle.protocol.proofs.Effects.{votes, adjusts}
-use Rattle.protocol.proofs.Valid.{valid-earlier, accepted-sheet, closed-took}
+use Rattle.protocol.proofs.Valid.{valid-earlier, accepted-sheet}
+use Rattle.protocol.proofs.Phases.{held, ChosenAt, chosen-at, over-later}
 use Rattle.protocol.proofs.Starts.{StartAt, candidate-confirmed}
-use Rattle.protocol.proofs.Rounds.{Round, kept-round, some-correct, closes, moment, moment-earlier, valid-moment, still-open, has-close, chosen, choice-at-moment}
+use Rattle.protocol.proofs.Rounds.{Round, kept-round, ends-closed}
 use Rattle.protocol.proofs.Adjustments.{one-adjustment}
-use Rattle.protocol.proofs.Agreement.{adjust-later, has-candidate, Confirmation, confirmation, start-known, candidate-stays, has-adjuster, adjuster-stays}
+use Rattle.protocol.proofs.Agreement.{adjust-later, candidate-agreed, Confirmation, confirmation, start-known, adjuster-agreed}
 use Rattle.protocol.proofs.Precision.{apart-distance, triangle, steady, start-stays}
 
 module _ {g : Setting} {h : History} (r : Round g h) where
   -- the candidate and the adjuster of the round
   candidate : ℕ
-  candidate = chosen r votes (has-candidate r)
+  candidate = candidate-agreed r .choice
 
   adjuster : ℕ
-  adjuster = chosen r adjusts (has-adjuster r)
+  adjuster = adjuster-agreed r .choice
 
-  -- the candidate confirmed its start before the first correct vote close
-  confirmed : took 3 candidate (moment r votes) ≡ true
-  unfolding candidate
-  confirmed =
-      let x = some-correct r in
-      candidate-confirmed g (r .sheet .at-most-16) (r .sheet .heads-fit-test) (valid-moment r votes) (x .0) candidate (choice-at-moment r votes (has-candidate r) (x .1))
+  -- whoever has the candidate knows that it confirmed its start
+  confirmed : {s : History} → Earlier s h → (q : ℕ) → held g votes s q ≡ SomeNumber candidate → took 3 candidate s ≡ true
+  confirmed x q u = candidate-confirmed g (r .sheet .at-most-16) (r .sheet .heads-fit-test) (valid-earlier x (r .sheet .valid)) q candidate u
 
-  -- what a correct head ends with; `start` is the delivery of its chosen start
+  -- what a correct head ends with; `vote` is its vote for the candidate, `start` the delivery of its chosen start
   record Ends (q : ℕ) : Type 0 where
     candidate-is : recordOf g h q .vote .choice ≡ SomeNumber candidate
     adjuster-is : recordOf g h q .adjust .choice ≡ SomeNumber adjuster
     closed : recordOf g h q .adjust .closed ≡ true
-    start : StartAt g (moment r votes) q candidate
+    vote : ChosenAt g votes h q candidate
+    start : StartAt g (vote .event ∷ vote .past) q candidate
     reading-is : chosenStart (recordOf g h q) ≡ SomeReading (start .event .entry .reading)
     time-is : lastStart h candidate q ≡ start .event .entry .time .0
 
   ends : {q : ℕ} → CorrectHead g q → Ends q
   unfolding candidate adjuster chosenStart
   ends {q} c =
-      let x = start-known r (moment-earlier r votes) candidate c confirmed (still-open r votes now c) in
-      let stays = start-stays r candidate q (moment-earlier r votes) now confirmed c in
-      let chose = candidate-stays r now (has-close r votes) c in
+      let chose = candidate-agreed r .holds c in
+      let w = chosen-at g votes (r .sheet .valid) q candidate chose in
+      let known = confirmed (w .there) q (w .holds) in
+      let x = start-known r (w .there) candidate c known (w .was-open) in
+      let stays = start-stays r candidate q (w .there) now known c in
       record {
         candidate-is = chose;
-        adjuster-is = adjuster-stays r now (has-close r adjusts) c;
-        closed = closed-took g adjusts (r .sheet .valid) q ∙ closes r adjusts c;
+        adjuster-is = adjuster-agreed r .holds c;
+        closed = ends-closed r adjusts c;
+        vote = w;
         start = x;
         reading-is = rw chose (stays .0 ∙ x .reading-is);
         time-is = stays .1 ∙ x .time-is;
@@ -76,30 +78,29 @@ module _ {g : Setting} {h : History} (r : Round g h) where
   steady-look : {q : ℕ} {e : Event} (c : CorrectHead g q) → LookedAt g h q e → isSteady (g .drift) (ends c .start .event .entry) (e .entry) ≡ true
   steady-look {q} {e} c k =
       let x : Earlier (e ∷ k .earlier) h = earlier-append (k .later) (k .in-history) in
+      let w = ends c .vote in
       let b = ends c .start in
-      let v = r .sheet .valid in
-      let open-then : took 9 q (moment r votes) ≡ false =
-      sym (closed-took g adjusts (valid-moment r votes) q) ∙ adjust-later r (valid-moment r votes) q (c .is-head) (still-open r votes now c) in
-      let closed-now : took 9 q (k .earlier) ≡ true = sym (closed-took g adjusts (valid-earlier (earlier-past x) v) q) ∙ k .closed in
-      let since = later-moment (takes 9 q) (moment-earlier r votes) (earlier-past x) open-then closed-now in
+      let v = valid-earlier (earlier-past (w .there)) (r .sheet .valid) in
+      let open-then = adjust-later r v q (c .is-head) (w .was-open) in
+      let since = later-event (w .there) (earlier-past x) (λ y. absurd-bool (over-later g adjusts y v q (k .closed)) open-then) in
       steady r x (earlier-trans (b .there) since) c (k .at-head) (eqb-true _ q (and-left (eqb (b .event .entry .head) q) _ (and-left (takes 2 q (b .event)) _ (b .is-start))))
 
   -- the last deliveries before the confirmation are the last ones
-  before-confirm : (k : Confirmation r candidate (moment r votes)) (q : ℕ) → CorrectHead g q → lastStart (moment r votes) candidate q ≡ lastStart (k .past) candidate q
+  before-confirm : (k : Confirmation r candidate h) (q : ℕ) → CorrectHead g q → lastStart h candidate q ≡ lastStart (k .past) candidate q
   unfolding lastStart
   before-confirm k q c =
       let three : k .event .entry .action ≡ 3 = eqb-true _ 3 (and-right (eqb (k .event .entry .head) candidate) _ (k .confirms)) in
       let no-start : receives 2 candidate 0 q (k .event) ≡ false = cases (receives 2 candidate 0 q (k .event))
       (λ u. absurd (let two : k .event .entry .action ≡ 2 = eqb-true _ 2 (and-right (eqb (k .event .entry .head) q) _ (and-left (takes 2 q (k .event)) _ u)) in omega arith)) (λ u. u) in
-      start-stays r candidate q (k .there) (moment-earlier r votes) (or-first (takes 3 candidate (k .event)) _ (k .confirms)) c .1 ∙ rw no-start refl
+      start-stays r candidate q (k .there) now (or-first (takes 3 candidate (k .event)) _ (k .confirms)) c .1 ∙ rw no-start refl
 
   -- the two last deliveries of the chosen start lie within the tightness
   near-starts : {p q : ℕ} (cp : CorrectHead g p) (cq : CorrectHead g q) → distance (ends cp .start .event .entry .time .0) (ends cq .start .event .entry .time .0) ≤ g .tightness
   near-starts {p} {q} cp cq =
-      let k = confirmation r candidate (moment-earlier r votes) confirmed in
-      let at : (q : ℕ) → CorrectHead g q → lastStart (moment r votes) candidate q ≡ lastStart (k .past) candidate q = λ q c. before-confirm k q c in
-      subst (λ (x : ℕ). distance x (ends cq .start .event .entry .time .0) ≤ g .tightness) (sym (at p cp) ∙ ends cp .start .time-is)
-      (subst (λ (x : ℕ). distance (lastStart (k .past) candidate p) x ≤ g .tightness) (sym (at q cq) ∙ ends cq .start .time-is) (k .near cp cq))
+      let k = confirmation r candidate now (confirmed now p (ends cp .candidate-is)) in
+      let at : (q : ℕ) → CorrectHead g q → lastStart h candidate q ≡ lastStart (k .past) candidate q = λ q c. before-confirm k q c in
+      subst (λ (x : ℕ). distance x (ends cq .start .event .entry .time .0) ≤ g .tightness) (sym (at p cp) ∙ ends cp .time-is)
+      (subst (λ (x : ℕ). distance (lastStart (k .past) candidate p) x ≤ g .tightness) (sym (at q cq) ∙ ends cq .time-is) (k .near cp cq))
 
   clocks-together : {p q : ℕ} {d e : Event} → CorrectHead g p → CorrectHead g q → LookedAt g h p d → LookedAt g h q e → d .entry .time .0 ≡ e .entry .time .0
       → 1000000 * apart (shown d (endingOf (recordOf g h p))) (shown e (endingOf (recordOf g h q)))

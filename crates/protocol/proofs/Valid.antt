@@ -1,26 +1,27 @@
 -- The history of an accepted run: each event is what its head's step did after the events before it.
 -- Main results: `valid-run` (a run that was not stopped has a valid history), `record-at`, `record-other`, `by-head`
--- (an invariant of records is one induction over a valid history), `mark-took` (each mark is set by its action).
-use mathlib.Core.Path.{_≡_, refl, sym, _∙_, ap, subst}
+-- (an invariant of records is one induction over a valid history), `mark-took`, `adjust-turn-took`, `closed-took` (a mark is set by
+-- its action, the mark of a close by an early close too).
+use mathlib.Core.Path.{_≡_, refl, sym, _∙_, ap, ap₂, subst}
 use mathlib.Core.Bool.{Bool, true, false, cond, not, _&&_, _||_}
 use mathlib.Core.List.{List, [], _∷_}
 use Prim.Native.Nat.{ℕ, zero, suc, _+_, _*_, _^_, _≤_, _<_}
 use native.Mathlib.Omega.{arith}
 use lib.Dec.{ltb, leb, eqb}
 use lib.ListN.{length, getD}
-use borrow.Author.Tests.{eqb-true, ltb-false, leb-true}
-use Rattle.protocol.specs.Types.{Reading, OptReading, NoReading, SomeReading, Sender, HeadRecord, Setting, Entry, Cause, BadEntry, TimeFell, ReadingFell, ActionClosed, Verdict, Accepted, Refused, Stepped, Frame, NoFrame, Start, Vote, Adjust}
+use borrow.Author.Tests.{eqb-true, eq-eqb, ltb-false, leb-true}
+use Rattle.protocol.specs.Types.{Reading, OptReading, NoReading, SomeReading, Sender, Phase, HeadRecord, Setting, Entry, Cause, BadEntry, TimeFell, ReadingFell, ActionClosed, Verdict, Accepted, Refused, Stepped, Frame, NoFrame, Start, Vote, Adjust}
 use Rattle.protocol.specs.Types.{Action, StartDelivered, VoteDelivered, AdjustDelivered}
 use Rattle.protocol.specs.Words.{bits, hasSender, zeroWhereUnused, headsFit, settingOf, firstWordFits, entryOf, entryFits, settingAt, entryCount, placeOf, entryAt, entryFitsAt}
 use Rattle.protocol.specs.Record.{keptOf, fresh, reading, readingOr0, isReading}
-use Rattle.protocol.specs.Step.{withVoteReading, withLast, accepted, refused, effect, isClosed, takeAction, actionOf}
+use Rattle.protocol.specs.Step.{withLast, accepted, refused, isClosed, act, takenAs, takeAction, actionOf}
 use Rattle.protocol.specs.Causes.{sheetVerdict}
 use Rattle.protocol.specs.Run.{Event, History, recordOf, isDeliveredBy, orElse, frameSent, frameOf, isFrame, carriedChoice, carriedReading, inputOf, lastTime, stepEntry, Run, stopped, ran, extend, andThen, runOf, afterVerdict, runSheet}
-use Rattle.protocol.specs.Premises.{turning, took}
-use Rattle.protocol.proofs.Tests.{absurd-bool, cases, parts, and-left, and-right, or-left, or-right, not-false, eqb-same}
+use Rattle.protocol.specs.Premises.{takes, took}
+use Rattle.protocol.proofs.Tests.{absurd-bool, cases, parts, and-left, and-right, and-both, or-left, or-right, or-first, or-second, or-cases, not-false, eqb-same}
 use Rattle.protocol.proofs.Fits.{entry-fits, sheet-fits}
 use Rattle.protocol.proofs.Moments.{Earlier, now, later}
-use Rattle.protocol.proofs.Effects.{Kind, votes, adjusts, phaseOf, closing, number, deliveryIn, deliveredBy, serialOf, send, sendingOf, prepared, effect-split, effect-accepted, marksOf, send-marks, send-same, send-keeps, prepared-same, ignored, keptAfter, kept-after}
+use Rattle.protocol.proofs.Effects.{Kind, votes, adjusts, phaseOf, delivery, closing, number, deliveryIn, deliveredBy, serialOf, phase-last, sendingOf, prepared, answer, closesEarly, act-split, act-accepted, answer-closed, answer-early, TakenAs, taken-as, taken-delivery, Unspent, taken-number, delivery-unspent, taken-adjust-turn, asked-adjust-turn, taken-close, marksOf, send-marks, send-same, Unsaid, send-keeps, prepared-same, ignored, keptAfter, kept-after}
 
 -- the record that the event's step worked on: its head's, with the reading already kept
 abbrev pub baseOf : Setting → History → Event → HeadRecord
@@ -33,10 +34,12 @@ pub record Asked (e : Entry) (x : Frame) (a : Action) : Type 0 where
   pub serial-is : serialOf x ≡ e .serial
   pub frame-is : deliveredBy x ≡ cond (hasSender (e .action)) (e .action) 0
 
--- an event of an accepted run, s being what came before it
+-- an event of an accepted run, s being what came before it; asks is the action that the entry asks, taken as action
 pub record Taken (g : Setting) (s : History) (e : Event) : Type 0 where
+  pub asks : Action
+  pub asked : Asked (e .entry) (frameOf s (e .entry)) asks
   pub action : Action
-  pub asked : Asked (e .entry) (frameOf s (e .entry)) action
+  pub as-action : TakenAs (recordOf g s (e .entry .head)) asks action
   pub head-below : e .entry .head < g .n
   pub sender-below : e .entry .sender < g .n
   pub serial-below : e .entry .serial < 16
@@ -44,7 +47,7 @@ pub record Taken (g : Setting) (s : History) (e : Event) : Type 0 where
   pub time-rises : lastTime s ≤ e .entry .time .0
   pub reading-rises : recordOf g s (e .entry .head) .last .0 ≤ e .entry .reading .0
   pub is-open : isClosed (recordOf g s (e .entry .head)) action ≡ false
-  pub result : accepted (e .after) (e .frame) ≡ effect (baseOf g s e) action
+  pub result : accepted (e .after) (e .frame) ≡ act (baseOf g s e) action
 
 pub data Valid (g : Setting) : History → Type 0 where
   start : Valid g []
@@ -164,18 +167,18 @@ accepted-cond : (b : Bool) (r : HeadRecord) (c : Cause) (t : Stepped) → cond b
 accepted-cond true r c t h = absurd (let z : _≡_ {A = ℕ} 0 1 = cc in omega arith)
 accepted-cond false r c t h = (refl, refl, h)
 
--- an action that is accepted has passed causes 8 and 9, and its answer is the effect
+-- an action that is accepted has passed causes 8 and 9, and its answer is what the step does
 pub record Passed (r : HeadRecord) (x : Reading) (sent : Bool) (a : Action) : Type 0 where
   pub reading-rises : r .last .0 ≤ x .0
   pub was-sent : sent ≡ true
-  pub is-open : isClosed r a ≡ false
-  pub answer : takeAction r x sent a ≡ effect (withLast r x) a
+  pub is-open : isClosed r (takenAs r a) ≡ false
+  pub answer : takeAction r x sent a ≡ act (withLast r x) (takenAs r a)
 
 pub passed : (r : HeadRecord) (x : Reading) (sent : Bool) (a : Action) → takeAction r x sent a .verdict ≡ Accepted → Passed r x sent a
 unfolding takeAction
 passed r x sent a h =
     let c8 = accepted-cond (ltb (x .0) (r .last .0)) r ReadingFell _ h in
-    let c9 = accepted-cond (not sent || isClosed r a) r ActionClosed _ (c8 .2) in
+    let c9 = accepted-cond (not sent || isClosed r (takenAs r a)) r ActionClosed _ (c8 .2) in
     record {
       reading-rises = ltb-false (x .0) (r .last .0) (c8 .0);
       was-sent = not-false (or-left (not sent) _ (c9 .0));
@@ -193,10 +196,13 @@ taken-entry g s fits e f h =
     let c7 = accepted-cond (ltb (e .time .0) (lastTime s)) r TimeFell _ (c6 .2) in
     let p = passed r (e .reading) _ _ (c7 .2) in
     let w = f (not-false (c6 .0)) in
-    let a = actionOf (inputOf e (frameOf s e)) in
-    let answer : stepEntry g s fits e ≡ effect (withLast r (e .reading)) a = c6 .1 ∙ c7 .1 ∙ p .answer in
+    let asks = actionOf (inputOf e (frameOf s e)) in
+    let a = takenAs r asks in
+    let answer : stepEntry g s fits e ≡ act (withLast r (e .reading)) a = c6 .1 ∙ c7 .1 ∙ p .answer in
     record {
+      asks = asks;
       action = a;
+      as-action = taken-as r asks;
       asked = asked e (e .action) (frameOf s e) (w .action-below) (w .zero-unused) (p .was-sent) (frame-fits s (e .action) (e .sender) (e .serial));
       head-below = w .head-below;
       sender-below = w .sender-below;
@@ -205,7 +211,7 @@ taken-entry g s fits e f h =
       time-rises = ltb-false (e .time .0) (lastTime s) (c7 .0);
       reading-rises = p .reading-rises;
       is-open = p .is-open;
-      result = subst (λ (t : Stepped). accepted (t .after) (t .frame) ≡ effect (withLast r (e .reading)) a) (sym answer) (effect-accepted (withLast r (e .reading)) a);
+      result = subst (λ (t : Stepped). accepted (t .after) (t .frame) ≡ act (withLast r (e .reading)) a) (sym answer) (act-accepted (withLast r (e .reading)) a);
     }
 
 same-history : {g : Setting} {s h : History} → ran s ≡ ran h → Valid g s → Valid g h
@@ -270,15 +276,27 @@ pub by-head : (P : ℕ → Type 0) (e : Event) (q : ℕ) → P (e .entry .head) 
 by-head P e q a b = cases (eqb (e .entry .head) q) (λ t. subst P (eqb-true (e .entry .head) q t) a) b
 
 module _ (g : Setting) where
-  -- a fact of every effect is a fact of an event
-  pub of-effect : (P : Stepped → Type 0) {s : History} {e : Event} (t : Taken g s e) → P (send (sendingOf (baseOf g s e) (t .action)) (prepared (baseOf g s e) (t .action)))
-      → P (accepted (e .after) (e .frame))
-  of-effect P t h = subst P (sym (t .result ∙ effect-split _ _)) h
+  -- what an event's action delivers, and which action it is
+  pub delivery-at : {s : History} {e : Event} (t : Taken g s e) → deliveryIn (t .action) ≡ record { sender = e .entry .sender; frame = frameOf s (e .entry) }
+  delivery-at t = taken-delivery (t .as-action) ∙ t .asked .delivery-is
+
+  pub number-at : {s : History} {e : Event} (t : Taken g s e) (d : ℕ) → Unspent d → eqb (number (t .action)) d ≡ eqb (e .entry .action) d
+  number-at t d u = taken-number d u (t .as-action) ∙ ap (λ (i : ℕ). eqb i d) (t .asked .number-is)
+
+  pub is-delivery : (k : Kind) {s : History} {e : Event} (t : Taken g s e) → number (t .action) ≡ delivery k → e .entry .action ≡ delivery k
+  is-delivery k {e = e} t h = eqb-true (e .entry .action) (delivery k) (sym (number-at t (delivery k) (delivery-unspent k)) ∙ eq-eqb _ _ h)
+
+  pub delivers : (k : Kind) {s : History} {e : Event} (t : Taken g s e) → e .entry .action ≡ delivery k → number (t .action) ≡ delivery k
+  delivers k t h = eqb-true (number (t .action)) (delivery k) (number-at t (delivery k) (delivery-unspent k) ∙ eq-eqb _ _ h)
+
+  -- a fact of every answer is a fact of an event
+  pub of-effect : (P : Stepped → Type 0) {s : History} {e : Event} (t : Taken g s e) → P (answer (baseOf g s e) (t .action)) → P (accepted (e .after) (e .frame))
+  of-effect P t h = subst P (sym (t .result ∙ act-split _ _)) h
 
   -- an invariant of a head's record: it holds of a fresh one, and a step keeps it at the head that takes it
   pub invariant : (P : ℕ → HeadRecord → Type 0) → ((q : ℕ) → P q (fresh (g .n) (g .f) q))
       → ((s : History) (e : Event) (t : Taken g s e) → Valid g s → P (e .entry .head) (recordOf g s (e .entry .head))
-      → P (e .entry .head) (send (sendingOf (baseOf g s e) (t .action)) (prepared (baseOf g s e) (t .action)) .after))
+      → P (e .entry .head) (answer (baseOf g s e) (t .action) .after))
       → {s : History} → Valid g s → (q : ℕ) → P q (recordOf g s q)
   unfolding recordOf
   invariant P first step start q = first q
@@ -303,35 +321,108 @@ module _ (g : Setting) where
       record { n-is = u .n ∙ b .n-is; f-is = u .f ∙ b .f-is; own-is = u .own ∙ b .own-is; size-is = u .size ∙ m .size ∙ b .size-is })
 
   -- a mark is set by the action that sets it; m picks the mark
-  pub mark-took : (m : List Bool → Bool) (a : ℕ) → m (marksOf (fresh 0 0 0)) ≡ false
+  pub mark-took : (m : List Bool → Bool) (a : ℕ) → Unspent a → m (marksOf (fresh 0 0 0)) ≡ false
       → ((r : HeadRecord) (i : Action) → m (marksOf (prepared r i)) ≡ (eqb (number i) a || m (marksOf r)))
       → {s : History} → Valid g s → (q : ℕ) → m (marksOf (recordOf g s q)) ≡ took a q s
   unfolding recordOf fresh
-  mark-took m a z step start q = z
-  mark-took m a z step (more {e = e} {s = s} t v) q =
+  mark-took m a u z step start q = z
+  mark-took m a u z step (more {e = e} {s = s} t v) q =
       by-head (λ q. m (marksOf (recordOf g (e ∷ s) q)) ≡ took a q (e ∷ s)) e q
       (rw (record-at g e s, eqb-same (e .entry .head)) (of-effect (λ x. m (marksOf (x .after)) ≡ (eqb (e .entry .action) a || took a (e .entry .head) s)) t
       (ap m (send-marks (sendingOf (baseOf g s e) (t .action)) (prepared (baseOf g s e) (t .action))) ∙ step (baseOf g s e) (t .action)
-      ∙ rw (t .asked .number-is, mark-took m a z step v (e .entry .head)) refl)))
-      (λ d. rw (record-other g e s q d, d) (mark-took m a z step v q))
+      ∙ rw (number-at t a u, mark-took m a u z step v (e .entry .head)) refl)))
+      (λ d. rw (record-other g e s q d, d) (mark-took m a u z step v q))
 
   pub started-took : {s : History} → Valid g s → (q : ℕ) → recordOf g s q .started ≡ took 1 q s
   unfolding fresh
-  started-took = mark-took (λ l. getD l 0 false) 1 refl (λ r i. refl)
+  started-took = mark-took (λ l. getD l 0 false) 1 refl refl (λ r i. refl)
 
   pub confirmed-took : {s : History} → Valid g s → (q : ℕ) → recordOf g s q .confirmed ≡ took 3 q s
   unfolding fresh
-  confirmed-took = mark-took (λ l. getD l 1 false) 3 refl (λ r i. refl)
+  confirmed-took = mark-took (λ l. getD l 1 false) 3 refl refl (λ r i. refl)
 
-  pub turn-took : (k : Kind) {s : History} → Valid g s → (q : ℕ) → phaseOf k (recordOf g s q) .turn ≡ took (turning k) q s
+  pub turn-took : {s : History} → Valid g s → (q : ℕ) → recordOf g s q .vote .turn ≡ took 4 q s
   unfolding fresh
-  turn-took votes = mark-took (λ l. getD l 2 false) 4 refl (λ r i. refl)
-  turn-took adjusts = mark-took (λ l. getD l 4 false) 7 refl (λ r i. refl)
+  turn-took = mark-took (λ l. getD l 2 false) 4 refl refl (λ r i. refl)
 
-  pub closed-took : (k : Kind) {s : History} → Valid g s → (q : ℕ) → phaseOf k (recordOf g s q) .closed ≡ took (closing k) q s
-  unfolding fresh
-  closed-took votes = mark-took (λ l. getD l 3 false) 6 refl (λ r i. refl)
-  closed-took adjusts = mark-took (λ l. getD l 5 false) 9 refl (λ r i. refl)
+  -- the adjust turn's mark is set by action 7, which sets it unless the phase was closed early
+  adjust-turn-at : {s : History} {e : Event} (t : Taken g s e) → recordOf g (e ∷ s) (e .entry .head) .adjust .turn ≡ (eqb (number (t .action)) 7 || recordOf g s (e .entry .head) .adjust .turn)
+  adjust-turn-at {s} {e} t =
+      rw (record-at g e s) (of-effect (λ x. x .after .adjust .turn ≡ (eqb (number (t .action)) 7 || recordOf g s (e .entry .head) .adjust .turn)) t
+      (ap (λ (l : List Bool). getD l 3 false) (send-marks (sendingOf (baseOf g s e) (t .action)) (prepared (baseOf g s e) (t .action)))))
+
+  pub adjust-turned : {s : History} → Valid g s → (q : ℕ) → recordOf g s q .adjust .turn ≡ true → took 7 q s ≡ true
+  unfolding recordOf fresh
+  adjust-turned start q = λ h. h
+  adjust-turned (more {e = e} {s = s} t v) q =
+      by-head (λ q. recordOf g (e ∷ s) q .adjust .turn ≡ true → took 7 q (e ∷ s) ≡ true) e q
+      (λ h. or-cases (eqb (number (t .action)) 7) _ (sym (adjust-turn-at t) ∙ h)
+      (λ u. or-first (takes 7 (e .entry .head) e) _ (and-both (eqb-same (e .entry .head)) (subst (λ (a : ℕ). eqb a 7 ≡ true) (t .asked .number-is) (asked-adjust-turn (t .as-action) u))))
+      (λ u. or-second (takes 7 (e .entry .head) e) _ (adjust-turned v (e .entry .head) u)))
+      (λ d h. or-second (takes 7 q e) _ (adjust-turned v q (ap (λ (r : HeadRecord). r .adjust .turn) (sym (record-other g e s q d)) ∙ h)))
+
+  pub adjust-turn-took : {s : History} → Valid g s → (q : ℕ) → (recordOf g s q .adjust .turn || recordOf g s q .adjust .early) ≡ (took 7 q s || recordOf g s q .adjust .early)
+  unfolding recordOf fresh
+  adjust-turn-took start q = refl
+  adjust-turn-took (more {e = e} {s = s} t v) q =
+      by-head (λ q. (recordOf g (e ∷ s) q .adjust .turn || recordOf g (e ∷ s) q .adjust .early) ≡ (took 7 q (e ∷ s) || recordOf g (e ∷ s) q .adjust .early)) e q
+      (ap₂ (λ (a b : Bool). a || b) (adjust-turn-at t) early-after
+      ∙ turn-law (closesEarly adjusts (baseOf g s e) (t .action)) (recordOf g s (e .entry .head) .adjust .early) (eqb (number (t .action)) 7) (eqb (e .entry .action) 7) _ (took 7 (e .entry .head) s) asked-7 (adjust-turn-took v (e .entry .head))
+      ∙ sym (ap₂ (λ (a b : Bool). a || b) (ap (λ (b : Bool). (b && eqb (e .entry .action) 7) || took 7 (e .entry .head) s) (eqb-same (e .entry .head))) early-after))
+      (λ d. rw (record-other g e s q d, d) (adjust-turn-took v q))
+    where
+      early-after : recordOf g (e ∷ s) (e .entry .head) .adjust .early ≡ (closesEarly adjusts (baseOf g s e) (t .action) || recordOf g s (e .entry .head) .adjust .early)
+      early-after =
+          rw (record-at g e s) (of-effect (λ x. x .after .adjust .early ≡ (closesEarly adjusts (baseOf g s e) (t .action) || recordOf g s (e .entry .head) .adjust .early)) t
+          (answer-early adjusts (baseOf g s e) (t .action)))
+
+      asked-7 : (eqb (number (t .action)) 7 || recordOf g s (e .entry .head) .adjust .early) ≡ (eqb (e .entry .action) 7 || recordOf g s (e .entry .head) .adjust .early)
+      asked-7 = taken-adjust-turn (t .as-action) ∙ ap (λ (i : ℕ). eqb i 7 || recordOf g s (e .entry .head) .adjust .early) (t .asked .number-is)
+
+      or-none : (b : Bool) → (b || false) ≡ b
+      or-none true = refl
+      or-none false = refl
+
+      turn-law : (c e x y m k : Bool) → (x || e) ≡ (y || e) → (m || e) ≡ (k || e) → ((x || m) || (c || e)) ≡ ((y || k) || (c || e))
+      turn-law true e x y m k h i = or-second (x || m) true refl ∙ sym (or-second (y || k) true refl)
+      turn-law false true x y m k h i = or-second (x || m) true refl ∙ sym (or-second (y || k) true refl)
+      turn-law false false x y m k h i = ap (λ (b : Bool). b || false) (ap₂ (λ (a b : Bool). a || b) (sym (or-none x) ∙ h ∙ or-none y) (sym (or-none m) ∙ i ∙ or-none k))
+
+  -- a phase is closed by its action, or early
+  pub closed-took : (k : Kind) {s : History} → Valid g s → (q : ℕ) → phaseOf k (recordOf g s q) .closed ≡ (took (closing k) q s || phaseOf k (recordOf g s q) .early)
+  unfolding recordOf fresh
+  closed-took votes start q = refl
+  closed-took adjusts start q = refl
+  closed-took k (more {e = e} {s = s} t v) q =
+      by-head (λ q. phaseOf k (recordOf g (e ∷ s) q) .closed ≡ (took (closing k) q (e ∷ s) || phaseOf k (recordOf g (e ∷ s) q) .early)) e q
+      (rw (record-at g e s, eqb-same (e .entry .head)) (of-effect (λ x. phaseOf k (x .after) .closed ≡ ((eqb (e .entry .action) (closing k) || took (closing k) (e .entry .head) s) || phaseOf k (x .after) .early)) t
+      (answer-closed k r (t .action) ∙ ap (λ (c : Bool). closesEarly k r (t .action) || (eqb (number (t .action)) (closing k) || c)) (was (closed-took k v (e .entry .head)))
+      ∙ closed-law (closesEarly k r (t .action)) (eqb (number (t .action)) (closing k)) (eqb (e .entry .action) (closing k)) (took (closing k) (e .entry .head) s) (phaseOf k r .early) spent
+      ∙ ap (λ (c : Bool). (eqb (e .entry .action) (closing k) || took (closing k) (e .entry .head) s) || c) (sym (answer-early k r (t .action))))))
+      (λ d. rw (record-other g e s q d, d) (closed-took k v q))
+    where
+      r : HeadRecord
+      r = baseOf g s e
+
+      was : phaseOf k (recordOf g s (e .entry .head)) .closed ≡ (took (closing k) (e .entry .head) s || phaseOf k (recordOf g s (e .entry .head)) .early)
+          → phaseOf k r .closed ≡ (took (closing k) (e .entry .head) s || phaseOf k r .early)
+      was = subst (λ (p : Phase). p .closed ≡ (took (closing k) (e .entry .head) s || p .early)) (sym (phase-last k (recordOf g s (e .entry .head)) (e .entry .reading)))
+
+      spent : (eqb (number (t .action)) (closing k) || phaseOf k r .early) ≡ (eqb (e .entry .action) (closing k) || phaseOf k r .early)
+      spent =
+          subst (λ (p : Phase). (eqb (number (t .action)) (closing k) || p .early) ≡ (eqb (e .entry .action) (closing k) || p .early)) (sym (phase-last k (recordOf g s (e .entry .head)) (e .entry .reading)))
+          (taken-close k (t .as-action) ∙ ap (λ (i : ℕ). eqb i (closing k) || phaseOf k (recordOf g s (e .entry .head)) .early) (t .asked .number-is))
+
+      closed-law : (b x y t e : Bool) → (x || e) ≡ (y || e) → (b || (x || (t || e))) ≡ ((y || t) || (b || e))
+      closed-law true x true t e h = refl
+      closed-law true x false true e h = refl
+      closed-law true x false false e h = refl
+      closed-law false true true t e h = refl
+      closed-law false true false true e h = refl
+      closed-law false true false false e h = h
+      closed-law false false true true e h = refl
+      closed-law false false true false e h = h
+      closed-law false false false t e h = refl
 
   -- what is kept by sender p at the head of an event, before the head sends
   abbrev pub keptNext : (s : History) (e : Event) (p : ℕ) → Sender
@@ -339,11 +430,11 @@ module _ (g : Setting) where
       cond (not (ignored (baseOf g s e) (e .entry .sender) (frameOf s (e .entry))) && eqb (e .entry .sender) p)
       (keptAfter (baseOf g s e) (e .entry .sender) (frameOf s (e .entry))) (keptOf (recordOf g s (e .entry .head)) p)
 
-  -- of what is kept, all but the head's own vote reading is so after the event
-  pub kept-at : {X : Type 0} (part : Sender → X) → ((k : Sender) (x : OptReading) → part (withVoteReading k x) ≡ part k)
+  -- of what is kept, all but the head's own vote reading and latest frames is so after the event
+  pub kept-at : {X : Type 0} (part : Sender → X) → Unsaid part
       → {s : History} {e : Event} (t : Taken g s e) → Valid g s → g .n ≤ 16 → (p : ℕ) → part (keptOf (recordOf g (e ∷ s) (e .entry .head)) p) ≡ part (keptNext s e p)
   kept-at part keeps {s} {e} t v small p =
       let fits : e .entry .sender < length (recordOf g s (e .entry .head) .senders) = rw (fixed v (e .entry .head) .size-is) (let z = t .sender-below in omega arith) in
       rw (record-at g e s) (of-effect (λ y. part (keptOf (y .after) p) ≡ part (keptNext s e p)) t
       (send-keeps part keeps (sendingOf (baseOf g s e) (t .action)) (prepared (baseOf g s e) (t .action)) p
-      ∙ rw (t .asked .delivery-is) (ap part (kept-after (baseOf g s e) (e .entry .sender) (frameOf s (e .entry)) p fits))))
+      ∙ rw (delivery-at t) (ap part (kept-after (baseOf g s e) (e .entry .sender) (frameOf s (e .entry)) p fits))))

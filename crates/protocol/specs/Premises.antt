@@ -1,5 +1,6 @@
--- Document 01, "The eight premises", as tests on a history. "Before and after, earlier and later go by the order of
--- entries". What document 01 asks of a later entry is asked at the later of the two, so each test looks back only.
+-- Document 01, "The eight premises", as tests on a history, with the reading that document 02, No. 4, gives to premises 4 to 8.
+-- "Before and after, earlier and later go by the order of entries". What document 01 asks of a later entry is asked at the later of
+-- the two, so each test looks back only.
 use mathlib.Core.Bool.{Bool, true, cond, not, _&&_, _||_}
 use mathlib.Core.List.{List, [], _∷_}
 use Prim.Native.Nat.{ℕ, suc, _+_, _-_, _*_}
@@ -8,7 +9,7 @@ use lib.ListN.{length, getD}
 use Rattle.protocol.specs.Base.{_⇒_, any, all, allBelow, countBelow, distance}
 use Rattle.protocol.specs.Types.{Setting, Entry, Judged, Kept, Broken, Unjudged}
 use Rattle.protocol.specs.Words.{isCorrect, settingAt}
-use Rattle.protocol.specs.Record.{Kind, votes, adjusts}
+use Rattle.protocol.specs.Record.{Kind, votes, adjusts, phaseOf}
 use Rattle.protocol.specs.Causes.{causeNumber}
 use Rattle.protocol.specs.Run.{Event, History, recordOf, Run, stopped, ran, runSheet}
 
@@ -67,9 +68,10 @@ module _ (g : Setting) where
   abbrev pub correctTakes : ℕ → Event → Bool
   correctTakes a e = isCorrect g (e .entry .head) && eqb (e .entry .action) a
 
-  -- a correct close of a phase
+  -- a correct close of a phase. Document 02, No. 4: "Premises 5 to 8 look at closes by entry only at heads still open": an action 6
+  -- or 9 leaves such a head's phase closed and not early, and is taken elsewhere only after an early close
   abbrev pub correctCloses : Kind → Event → Bool
-  correctCloses k = correctTakes (closing k)
+  correctCloses k e = correctTakes (closing k) e && not (phaseOf k (e .after) .early)
 
   -- "1. At least n − f heads are correct"
   unfoldable pub premise1 : Bool
@@ -94,9 +96,14 @@ module _ (g : Setting) where
       each (λ e s. (eqb (e .entry .action) 3 ⇒ startWithin (e .entry .head) s)
       && (correctTakes 2 e ⇒ not (took 3 (e .entry .sender) s))) h
 
-  -- "4. Every correct head takes actions 6, 7 and 9"
+  -- head q has closed the phase early by the moment s
+  abbrev pub isEarly : Kind → History → ℕ → Bool
+  isEarly k s q = phaseOf k (recordOf g s q) .early
+
+  -- "4. Every correct head takes actions 6, 7 and 9"; document 02, No. 4: it "counts an early vote close as 6 taken; an early adjust
+  -- close counts as 7 and 9 taken"
   unfoldable pub premise4 : History → Bool
-  premise4 h = correctAll (λ q. took 6 q h && (took 7 q h && took 9 q h))
+  premise4 h = correctAll (λ q. (took 6 q h || isEarly votes h q) && ((took 7 q h && took 9 q h) || isEarly adjusts h q))
 
   -- each frame that p sent by the moment s, under the serials below the count, reached by then all other correct heads
   unfoldable pub framesReached : ℕ → ℕ → History → ℕ → Bool
@@ -122,9 +129,9 @@ module _ (g : Setting) where
   premise6 = noneBetween votes
 
   -- "7. Before the first correct adjust close, every correct head took 7, and each adjust sent by a correct head by then
-  -- reached, by then, all other correct heads"
+  -- reached, by then, all other correct heads"; document 02, No. 4: "an early adjust close counts as 7 .. taken"
   unfoldable pub adjustsReached : History → Bool
-  adjustsReached s = correctAll (λ p. took 7 p s && framesReached 8 (recordOf g s p .adjust .sent) s p)
+  adjustsReached s = correctAll (λ p. (took 7 p s || isEarly adjusts s p) && framesReached 8 (recordOf g s p .adjust .sent) s p)
 
   unfoldable pub premise7 : History → Bool
   premise7 h = any (correctCloses adjusts) h ⇒ adjustsReached (before (correctCloses adjusts) h)

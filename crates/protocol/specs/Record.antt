@@ -30,7 +30,7 @@ reading x = record { 0 = x }
 
 -- what is kept by sender p, its start reading and its vote reading
 abbrev pub noSender : Sender
-noSender = record { start = NoReading; vote = NoReading; voted = NoNumber; adjusted = NoNumber }
+noSender = record { start = NoReading; vote = NoReading; voted = NoNumber; adjusted = NoNumber; candidate = NoNumber; adjuster = NoNumber }
 
 abbrev pub keptOf : HeadRecord → ℕ → Sender
 keptOf r p = getD (r .senders) p noSender
@@ -49,10 +49,15 @@ abbrev pub phaseOf : Kind → HeadRecord → Phase
 phaseOf votes r = r .vote
 phaseOf adjusts r = r .adjust
 
+-- document 02, No. 4: whom a sender's latest vote, or its latest adjust, names
+abbrev pub latestOf : Kind → Sender → OptNumber
+latestOf votes k = k .candidate
+latestOf adjusts k = k .adjuster
+
 -- "Before the first entry every head's record is fresh: n and f from the first word, its own number, last reading 0,
 -- no marks, nothing else kept or sent"
 abbrev pub freshPhase : Phase
-freshPhase = record { turn = false; closed = false; choice = NoNumber; sent = 0 }
+freshPhase = record { turn = false; closed = false; early = false; choice = NoNumber; sent = 0 }
 
 unfoldable pub fresh : ℕ → ℕ → ℕ → HeadRecord
 fresh n f own =
@@ -106,20 +111,30 @@ abbrev pub serialInRange : OptNumber → Bool
 serialInRange NoNumber = true
 serialInRange (SomeNumber k) = leb k 15
 
-unfoldable pub senderInRange : Sender → Bool
-senderInRange k = readingInRange (k .start) && (readingInRange (k .vote) && (serialInRange (k .voted) && serialInRange (k .adjusted)))
+-- document 02, No. 4: "each sender's latest vote and adjust (none, or below n)"
+abbrev pub nameInRange : ℕ → OptNumber → Bool
+nameInRange n NoNumber = true
+nameInRange n (SomeNumber c) = ltb c n
+
+unfoldable pub senderInRange : ℕ → Sender → Bool
+senderInRange n k =
+    readingInRange (k .start) && (readingInRange (k .vote) && (serialInRange (k .voted) && (serialInRange (k .adjusted)
+    && (nameInRange n (k .candidate) && nameInRange n (k .adjuster)))))
 
 -- nothing is kept of a sender that the bench does not have
 unfoldable pub senderIsNone : Sender → Bool
-senderIsNone k = not (isReading (k .start)) && (not (isReading (k .vote)) && (not (isNumber (k .voted)) && not (isNumber (k .adjusted))))
+senderIsNone k =
+    not (isReading (k .start)) && (not (isReading (k .vote)) && (not (isNumber (k .voted)) && (not (isNumber (k .adjusted))
+    && (not (isNumber (k .candidate)) && not (isNumber (k .adjuster))))))
 
 -- "votes sent 0 exactly without a candidate v, else 1 to n − v, and adjusts likewise with the adjuster"; both below n
 abbrev pub sentInRange : ℕ → OptNumber → ℕ → Bool
 sentInRange n NoNumber sent = eqb sent 0
 sentInRange n (SomeNumber v) sent = ltb v n && (leb 1 sent && leb (sent + v) n)
 
+-- document 02, No. 4: "a mark for each phase closed early, set only with that phase's close mark"
 unfoldable pub phaseInRange : ℕ → Phase → Bool
-phaseInRange n p = sentInRange n (p .choice) (p .sent)
+phaseInRange n p = sentInRange n (p .choice) (p .sent) && (p .early ⇒ p .closed)
 
 -- "confirmed only if sent, turn only if confirmed, adjust turn or close only after vote close"
 unfoldable pub marksInRange : HeadRecord → Bool
@@ -131,4 +146,4 @@ unfoldable pub recordInRange : HeadRecord → Bool
 recordInRange r =
     headsFit (r .n) (r .f) && (ltb (r .own) (r .n) && (isTime (r .last .0) && (isTime (r .adjustment .0)
     && ((isNumber (r .adjust .choice) || eqb (r .adjustment .0) 0) && (phaseInRange (r .n) (r .vote) && (phaseInRange (r .n) (r .adjust)
-    && (marksInRange r && allBelow 16 (λ p. cond (ltb p (r .n)) (senderInRange (keptOf r p)) (senderIsNone (keptOf r p))))))))))
+    && (marksInRange r && allBelow 16 (λ p. cond (ltb p (r .n)) (senderInRange (r .n) (keptOf r p)) (senderIsNone (keptOf r p))))))))))

@@ -1,38 +1,49 @@
--- Document 01, "Actions and steps of one head h": the ten actions, when each is closed, what each does, and the step.
+-- Document 01, "Actions and steps of one head h": the ten actions, when each is closed, what each does, and the step;
+-- document 02, No. 4, "Closing when all have spoken".
 use mathlib.Core.Bool.{Bool, true, false, cond, not, _&&_, _||_}
 use mathlib.Core.List.{List, [], _∷_}
 use Prim.Native.Nat.{ℕ, zero, suc, _+_, _/_, _%_}
 use lib.Dec.{ltb, leb, eqb}
 use lib.ListN.{length, getD, set}
-use Rattle.protocol.specs.Base.{countBelow}
+use Rattle.protocol.specs.Base.{allBelow, countBelow}
 use Rattle.protocol.specs.Types.{Reading, OptReading, NoReading, SomeReading, OptNumber, NoNumber, SomeNumber, Sender, Phase, HeadRecord, Input, Cause, BadEntry, ReadingFell, ActionClosed, BadRecord}
 use Rattle.protocol.specs.Types.{Accepted, Refused, Stepped, Frame, NoFrame, Start, Vote, Adjust}
 use Rattle.protocol.specs.Types.{Action, Look, StartSent, StartDelivered, StartConfirmed, VoteTurn, VoteDelivered, VoteClose, AdjustTurn, AdjustDelivered, AdjustClose}
 use Rattle.protocol.specs.Words.{isTime, hasSerial, zeroWhereUnused}
-use Rattle.protocol.specs.Record.{isReading, isNumber, reading, keptOf, startOf, voteOf, recordInRange}
+use Rattle.protocol.specs.Record.{isReading, isNumber, reading, keptOf, startOf, voteOf, Kind, votes, adjusts, phaseOf, latestOf, recordInRange}
 use Rattle.protocol.specs.Median.{median}
 
 -- a phase, what is kept by a sender, and a record, each with one thing changed
 abbrev pub takeTurn : Phase → Phase
-takeTurn p = record { turn = true; closed = p .closed; choice = p .choice; sent = p .sent }
+takeTurn p = record { turn = true; closed = p .closed; early = p .early; choice = p .choice; sent = p .sent }
 
 abbrev pub close : Phase → Phase
-close p = record { turn = p .turn; closed = true; choice = p .choice; sent = p .sent }
+close p = record { turn = p .turn; closed = true; early = p .early; choice = p .choice; sent = p .sent }
 
 abbrev pub choose : ℕ → Phase → Phase
-choose c p = record { turn = p .turn; closed = p .closed; choice = SomeNumber c; sent = p .sent + 1 }
+choose c p = record { turn = p .turn; closed = p .closed; early = p .early; choice = SomeNumber c; sent = p .sent + 1 }
+
+-- closed early if b holds
+abbrev pub earlyIf : Bool → Phase → Phase
+earlyIf b p = record { turn = p .turn; closed = b || p .closed; early = b || p .early; choice = p .choice; sent = p .sent }
 
 abbrev pub withStart : Sender → OptReading → Sender
-withStart k x = record { start = x; vote = k .vote; voted = k .voted; adjusted = k .adjusted }
+withStart k x = record { start = x; vote = k .vote; voted = k .voted; adjusted = k .adjusted; candidate = k .candidate; adjuster = k .adjuster }
 
 abbrev pub withVoteReading : Sender → OptReading → Sender
-withVoteReading k x = record { start = k .start; vote = x; voted = k .voted; adjusted = k .adjusted }
+withVoteReading k x = record { start = k .start; vote = x; voted = k .voted; adjusted = k .adjusted; candidate = k .candidate; adjuster = k .adjuster }
 
 abbrev pub withVoted : Sender → ℕ → Sender
-withVoted k j = record { start = k .start; vote = k .vote; voted = SomeNumber j; adjusted = k .adjusted }
+withVoted k j = record { start = k .start; vote = k .vote; voted = SomeNumber j; adjusted = k .adjusted; candidate = k .candidate; adjuster = k .adjuster }
 
 abbrev pub withAdjusted : Sender → ℕ → Sender
-withAdjusted k j = record { start = k .start; vote = k .vote; voted = k .voted; adjusted = SomeNumber j }
+withAdjusted k j = record { start = k .start; vote = k .vote; voted = k .voted; adjusted = SomeNumber j; candidate = k .candidate; adjuster = k .adjuster }
+
+abbrev pub withCandidate : Sender → ℕ → Sender
+withCandidate k c = record { start = k .start; vote = k .vote; voted = k .voted; adjusted = k .adjusted; candidate = SomeNumber c; adjuster = k .adjuster }
+
+abbrev pub withAdjuster : Sender → ℕ → Sender
+withAdjuster k a = record { start = k .start; vote = k .vote; voted = k .voted; adjusted = k .adjusted; candidate = k .candidate; adjuster = SomeNumber a }
 
 abbrev pub withLast : HeadRecord → Reading → HeadRecord
 withLast r x = record { n = r .n; f = r .f; own = r .own; last = x; started = r .started; confirmed = r .confirmed; vote = r .vote; adjust = r .adjust; adjustment = r .adjustment; senders = r .senders }
@@ -45,6 +56,10 @@ withVote r p = record { n = r .n; f = r .f; own = r .own; last = r .last; starte
 
 abbrev pub withAdjust : HeadRecord → Phase → Reading → HeadRecord
 withAdjust r p x = record { n = r .n; f = r .f; own = r .own; last = r .last; started = r .started; confirmed = r .confirmed; vote = r .vote; adjust = p; adjustment = x; senders = r .senders }
+
+abbrev pub withPhase : Kind → HeadRecord → Phase → HeadRecord
+withPhase votes r p = withVote r p
+withPhase adjusts r p = withAdjust r p (r .adjustment)
 
 abbrev pub withSender : HeadRecord → ℕ → Sender → HeadRecord
 withSender r p k = record { n = r .n; f = r .f; own = r .own; last = r .last; started = r .started; confirmed = r .confirmed; vote = r .vote; adjust = r .adjust; adjustment = r .adjustment; senders = set (r .senders) p k }
@@ -60,15 +75,17 @@ abbrev pub refused : HeadRecord → Cause → Stepped
 refused r c = record { verdict = Refused c; after = r; frame = NoFrame }
 
 -- "A vote carries the candidate and h's own start reading of it, or the mark "none"; it is also h's own vote reading";
--- "Serials count a head's votes from 0"
+-- "Serials count a head's votes from 0"; document 02, No. 4: it is h's own latest vote
 unfoldable pub vote : ℕ → HeadRecord → Stepped
 vote c r =
-    accepted (withVote (withSender r (r .own) (withVoteReading (keptOf r (r .own)) (startOf r c))) (choose c (r .vote)))
+    accepted (withVote (withSender r (r .own) (withCandidate (withVoteReading (keptOf r (r .own)) (startOf r c)) c)) (choose c (r .vote)))
     (Vote (r .vote .sent) c (startOf r c))
 
--- an adjust carries adjuster and adjustment
+-- an adjust carries adjuster and adjustment; document 02, No. 4: it is h's own latest adjust
 unfoldable pub adjust : ℕ → Reading → HeadRecord → Stepped
-adjust a x r = accepted (withAdjust r (choose a (r .adjust)) x) (Adjust (r .adjust .sent) a x)
+adjust a x r =
+    accepted (withAdjust (withSender r (r .own) (withAdjuster (keptOf r (r .own)) a)) (choose a (r .adjust)) x)
+    (Adjust (r .adjust .sent) a x)
 
 -- "After 2 and 4: once the turn is taken, with the vote open, no candidate and at least f + 1 start readings held,
 -- h becomes its own candidate and votes"
@@ -103,6 +120,10 @@ abbrev pub isAbove : ℕ → OptNumber → Bool
 isAbove k NoNumber = true
 isAbove k (SomeNumber j) = ltb j k
 
+-- a delivery of no effect: "after the vote close or if the serial isn't above the last taken from that sender"
+abbrev pub isPassedOver : Phase → OptNumber → ℕ → Bool
+isPassedOver phase last serial = phase .closed || not (isAbove serial last)
+
 -- 5: "with no candidate, or a carried one of higher rank (lower number)"
 abbrev pub outranks : ℕ → OptNumber → Bool
 outranks c NoNumber = true
@@ -112,7 +133,7 @@ outranks c (SomeNumber v) = ltb c v
 -- Otherwise" the record keeps what it takes of the frame, and a choice that outranks its own is adopted and sent on
 unfoldable pub delivered : Phase → OptNumber → ℕ → ℕ → HeadRecord → HeadRecord → (HeadRecord → Stepped) → Stepped
 delivered phase last serial choice r taken adopt =
-    cond (phase .closed || not (isAbove serial last)) (silent r)
+    cond (isPassedOver phase last serial) (silent r)
     (cond (outranks choice (phase .choice)) (adopt taken) (silent taken))
 
 -- what an action does, its reading being the last reading already
@@ -126,13 +147,13 @@ effect r (StartDelivered p) = cond (r .adjust .closed) (silent r) (lead (withSen
 -- "3 own start confirmed", "4 vote turn"
 effect r StartConfirmed = silent (withMarks r (r .started) true)
 effect r VoteTurn = lead (withVote r (takeTurn (r .vote)))
--- "5 vote delivered .. the carried reading (or none) becomes the sender's vote reading"
-effect r (VoteDelivered p k c x) = delivered (r .vote) (keptOf r p .voted) k c r (withSender r p (withVoted (withVoteReading (keptOf r p) x) k)) (vote c)
+-- "5 vote delivered .. the carried reading (or none) becomes the sender's vote reading"; document 02, No. 4: it is the sender's latest vote
+effect r (VoteDelivered p k c x) = delivered (r .vote) (keptOf r p .voted) k c r (withSender r p (withCandidate (withVoted (withVoteReading (keptOf r p) x) k) c)) (vote c)
 -- "6 vote close", "7 adjust turn"
 effect r VoteClose = silent (withVote r (close (r .vote)))
 effect r AdjustTurn = propose (withAdjust r (takeTurn (r .adjust)) (r .adjustment))
 -- "8 adjust delivered: as 5, with adjuster and adjustment, until the adjust close; taken before the vote close too"
-effect r (AdjustDelivered p k a x) = delivered (r .adjust) (keptOf r p .adjusted) k a r (withSender r p (withAdjusted (keptOf r p) k)) (adjust a x)
+effect r (AdjustDelivered p k a x) = delivered (r .adjust) (keptOf r p .adjusted) k a r (withSender r p (withAdjuster (withAdjusted (keptOf r p) k) a)) (adjust a x)
 -- "9 adjust close"
 effect r AdjustClose = silent (withAdjust r (close (r .adjust)) (r .adjustment))
 
@@ -194,12 +215,64 @@ closedBy a m =
     ∷ (not (hasMark m 2) || hasMark m 4) ∷ false ∷ hasMark m 8 ∷ (not (hasMark m 8) || (hasMark m 16 || hasMark m 32)) ∷ false
     ∷ (not (hasMark m 8) || hasMark m 32) ∷ []) a false
 
+-- CLOSING WHEN ALL HAVE SPOKEN (document 02, No. 4)
+
+-- "its own and every other head's latest vote name its candidate, and the adjust phase likewise with the adjuster"; ""all" means all n"
+abbrev pub sameNumber : OptNumber → OptNumber → Bool
+sameNumber NoNumber m = false
+sameNumber (SomeNumber c) NoNumber = false
+sameNumber (SomeNumber c) (SomeNumber v) = eqb c v
+
+abbrev pub allSpoken : Kind → HeadRecord → Bool
+allSpoken k r = allBelow (r .n) (λ q. sameNumber (latestOf k (keptOf r q)) (phaseOf k r .choice))
+
+-- a phase is under way until its close, the adjust phase "never before its vote close"
+abbrev pub isUnderWay : Kind → HeadRecord → Bool
+isUnderWay votes r = not (r .vote .closed)
+isUnderWay adjusts r = r .vote .closed && not (r .adjust .closed)
+
+unfoldable pub mayClose : Kind → HeadRecord → Bool
+mayClose k r = isUnderWay k r && allSpoken k r
+
+-- what the test does to a phase, if it is made
+abbrev pub closeEarly : Kind → Bool → HeadRecord → HeadRecord
+closeEarly k tested r = withPhase k r (earlyIf (tested && mayClose k r) (phaseOf k r))
+
+-- "tested, vote first"
+abbrev pub concluded : Bool → Stepped → Stepped
+concluded tested t = record { verdict = t .verdict; after = closeEarly adjusts tested (closeEarly votes tested (t .after)); frame = t .frame }
+
+-- "This is tested .. at the end of each action but looks and those that these papers call without effect"
+unfoldable pub isTested : HeadRecord → Action → Bool
+isTested r Look = false
+isTested r StartSent = true
+isTested r (StartDelivered p) = not (r .adjust .closed)
+isTested r StartConfirmed = true
+isTested r VoteTurn = true
+isTested r (VoteDelivered p k c x) = not (isPassedOver (r .vote) (keptOf r p .voted) k)
+isTested r VoteClose = true
+isTested r AdjustTurn = true
+isTested r (AdjustDelivered p k a x) = not (isPassedOver (r .adjust) (keptOf r p .adjusted) k)
+isTested r AdjustClose = true
+
+unfoldable pub act : HeadRecord → Action → Stepped
+act r a = concluded (isTested r a) (effect r a)
+
+-- "After an early vote close any action 6, and after an early adjust close any action 7 or 9, has no effect and isn't cause 9": by the
+-- action's number and the two marks
+abbrev pub isSpent : ℕ → Bool → Bool → Bool
+isSpent a vote adjust = cond (eqb a 6) vote ((eqb a 7 || eqb a 9) && adjust)
+
+-- such an action is taken as a look
+unfoldable pub takenAs : HeadRecord → Action → Action
+takenAs r a = cond (isSpent (number a) (r .vote .early) (r .adjust .early)) Look a
+
 -- causes 8 and 9, then the effect: "Every accepted action makes its reading the last reading".
 -- sent: the frame that is delivered, if any, was sent by its sender; one head cannot know, a sheet does
 unfoldable pub takeAction : HeadRecord → Reading → Bool → Action → Stepped
 takeAction r x sent a =
     cond (ltb (x .0) (r .last .0)) (refused r ReadingFell)
-    (cond (not sent || isClosed r a) (refused r ActionClosed) (effect (withLast r x) a))
+    (cond (not sent || isClosed r (takenAs r a)) (refused r ActionClosed) (act (withLast r x) (takenAs r a)))
 
 -- the ten actions in the order of their numbers, made from the caller's numbers
 abbrev pub actionsOf : Input → List Action

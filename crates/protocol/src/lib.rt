@@ -25,19 +25,23 @@ pub enum OptNumber {
     SomeNumber(u8),
 }
 
-// What a record keeps by sender: its last start reading, its vote reading, and the vote and adjust serials last taken from it.
+// What a record keeps by sender: its last start reading, its vote reading, the vote and adjust serials last taken from it,
+// and whom its latest vote and its latest adjust name.
 pub struct Sender {
     pub start: OptReading,
     pub vote: OptReading,
     pub voted: OptNumber,
     pub adjusted: OptNumber,
+    pub candidate: OptNumber,
+    pub adjuster: OptNumber,
 }
 
 // One phase of a round at one head. For votes the choice is the candidate, for adjusts the adjuster;
-// sent counts the head's own votes or adjusts, which are the serials of those frames.
+// sent counts the head's own votes or adjusts, which are the serials of those frames; early marks a phase closed early.
 pub struct Phase {
     pub turn: bool,
     pub closed: bool,
+    pub early: bool,
     pub choice: OptNumber,
     pub sent: u8,
 }
@@ -58,7 +62,7 @@ pub struct HeadRecord {
 
 // A head's record as a row of numbers, in the memory that a board lends: rowOf (specs/Row.antt) says which stands for what, and
 // `at` names them. How many they are, rowLength there, the code says here alone.
-pub const ROW_LENGTH: usize = 80;
+pub const ROW_LENGTH: usize = 112;
 
 pub type Row = [u32; ROW_LENGTH];
 

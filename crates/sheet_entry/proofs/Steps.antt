@@ -7,19 +7,20 @@ use native.Mathlib.Omega.{arith}
 use lib.ListN.{getD, set}
 use borrow.Author.Tests.{eqb-false, ne-eqb}
 use Rattle.protocol.specs.declared.Entry.{Entry}
+use Rattle.protocol.specs.declared.HeadRecord.{HeadRecord}
 use Rattle.protocol.specs.declared.Input.{Input}
 use Rattle.protocol.specs.declared.Sent.{Sent}
 use Rattle.protocol.specs.declared.Stepped.{Stepped}
 use Rattle.protocol.specs.declared.Verdict.the-variants.{Accepted}
 use Rattle.protocol.specs.Words.{settingAt, entryAt, entryFitsAt}
 use Rattle.protocol.specs.Record.{reading}
-use Rattle.protocol.specs.Step.{withLast, effect, actionOf}
+use Rattle.protocol.specs.Step.{withLast, act, takenAs, actionOf}
 use Rattle.protocol.specs.Row.{rowOf, sentOf}
 use Rattle.protocol.specs.Run.{History, recordOf, frameOf, inputOf}
 use Rattle.protocol.proofs.Tables.{set-table}
 use Rattle.protocol.proofs.Valid.{Taken, record-at, record-other, fixed}
 use Rattle.protocol.proofs.Ranges.{frames-in-range, run-in-range}
-use Rattle.protocol.proofs.Runs.{does-effect}
+use Rattle.protocol.proofs.Runs.{does-act}
 use Rattle.head_row.specs.Promises.{Fits, Acts}
 use Rattle.head_row.proofs.Fitting.{fits}
 use Rattle.head_step.specs.Sized.{InputSized}
@@ -60,18 +61,21 @@ module _ {ws : List ℕ} {i : ℕ} {s : History} {heads : List (List ℕ)} (now 
 
   -- x is the entry's input, at the index of its head's row; after is the row that the step leaves, y the frame that it gives
   module _ {e : Entry} (is : e ≡ entryAt ws i) {x : Input} (made : x ≡ inputOf e (frameOf s e)) {at : ℕ} (index-is : at ≡ e .head % 16) {after : List ℕ} {y : Sent}
-      (acts : InputSized x → Acts (λ r. effect (withLast r (reading (x .reading))) (actionOf x)) (getD heads at []) after y) where
+      (acts : InputSized x → Acts (λ r. act (withLast r (reading (x .reading))) (takenAs r (actionOf x))) (getD heads at []) after y) where
     input-is : x ≡ inputOf (entryAt ws i) (frameOf s (entryAt ws i))
     input-is = made ∙ ap (λ (e : Entry). inputOf e (frameOf s e)) is
 
     at-is : at ≡ entryAt ws i .head
     at-is = index-is ∙ ap (λ (e : Entry). e .head % 16) is ∙ (let b = head-below in omega arith)
 
-    does : effect (withLast (recordOf (settingAt ws) s (entryAt ws i .head)) (reading (x .reading))) (actionOf x) ≡ answerAt ws i s
+    abbrev head : HeadRecord
+    head = recordOf (settingAt ws) s (entryAt ws i .head)
+
+    does : act (withLast head (reading (x .reading))) (takenAs head (actionOf x)) ≡ answerAt ws i s
     unfolding inputOf
     does =
-        ap (λ (x : Input). effect (withLast (recordOf (settingAt ws) s (entryAt ws i .head)) (reading (x .reading))) (actionOf x)) input-is
-        ∙ sym (does-effect (settingAt ws) s (entryFitsAt ws i) (entryAt ws i) accepted)
+        ap (λ (x : Input). act (withLast head (reading (x .reading))) (takenAs head (actionOf x))) input-is
+        ∙ sym (does-act (settingAt ws) s (entryFitsAt ws i) (entryAt ws i) accepted)
 
     done : (after ≡ rowOf (answerAt ws i s .after)) × (y ≡ sentOf (answerAt ws i s .frame))
     done =

@@ -17,10 +17,10 @@ use Rattle.protocol.specs.declared.Verdict.{Verdict}
 use Rattle.protocol.specs.declared.Verdict.the-variants.{Accepted, Refused}
 use Rattle.protocol.specs.declared.Stepped.{Stepped}
 use Rattle.protocol.specs.Words.{settingAt, entryAt, entryFitsAt}
-use Rattle.protocol.specs.Step.{withLast, refused, effect, isClosed, takeAction}
+use Rattle.protocol.specs.Step.{withLast, refused, isClosed, act, takenAs, takeAction}
 use Rattle.protocol.specs.Row.{rowOf}
 use Rattle.protocol.specs.Run.{History, recordOf, lastTime, stepEntry}
-use Rattle.protocol.proofs.Effects.{effect-accepted}
+use Rattle.protocol.proofs.Effects.{act-accepted}
 use Rattle.sheet_state.specs.Arrays.{answerAt, Stands}
 use Rattle.sheet_state.proofs.Standing.{head-row}
 use Rattle.sheet_open.specs.Open.{isOpen}
@@ -30,14 +30,14 @@ unfolding rowOf
 last-in r = refl
 
 taken-verdict : (r : HeadRecord) (x : Reading) (sent : Bool) (a : Action)
-    → takeAction r x sent a .verdict ≡ cond (ltb (x .0) (r .last .0)) (Refused ReadingFell) (cond (sent && not (isClosed r a)) Accepted (Refused ActionClosed))
+    → takeAction r x sent a .verdict ≡ cond (ltb (x .0) (r .last .0)) (Refused ReadingFell) (cond (sent && not (isClosed r (takenAs r a))) Accepted (Refused ActionClosed))
 unfolding takeAction
-taken-verdict r x sent a = go (ltb (x .0) (r .last .0)) sent (isClosed r a)
+taken-verdict r x sent a = go (ltb (x .0) (r .last .0)) sent (isClosed r (takenAs r a))
   where
-    accepts : effect (withLast r x) a .verdict ≡ Accepted
-    accepts = ap (λ (t : Stepped). t .verdict) (sym (effect-accepted (withLast r x) a))
+    accepts : act (withLast r x) (takenAs r a) .verdict ≡ Accepted
+    accepts = ap (λ (t : Stepped). t .verdict) (sym (act-accepted (withLast r x) (takenAs r a)))
 
-    go : (b c d : Bool) → cond b (refused r ReadingFell) (cond (not c || d) (refused r ActionClosed) (effect (withLast r x) a)) .verdict
+    go : (b c d : Bool) → cond b (refused r ReadingFell) (cond (not c || d) (refused r ActionClosed) (act (withLast r x) (takenAs r a))) .verdict
         ≡ cond b (Refused ReadingFell) (cond (c && not d) Accepted (Refused ActionClosed))
     go true c d = refl
     go false false d = refl

@@ -1,5 +1,5 @@
 // One entry of a sheet: the verdict on it, and what an accepted one does to its head's row.
-use head_step::effect;
+use head_step::act;
 use protocol::Cause;
 use protocol::Entry;
 use protocol::Input;
@@ -109,6 +109,6 @@ pub fn take_entry(
 {
     let i = input_of(e, choices, carried);
     let h = head_index(e.head);
-    let x = effect(&mut heads[h], i);
+    let x = act(&mut heads[h], i);
     keep_frame(e.head, x, choices, carried);
 }

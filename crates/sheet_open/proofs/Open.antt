@@ -1,6 +1,6 @@
 -- Cause 9 of an entry, read off the heads' rows and the table.
 -- Main results: `start-passes`, `frame-passes`, `others-pass`; `in-table`, `at-index`, `closed-there`, `open-there`.
-use mathlib.Core.Path.{_≡_, refl, sym, _∙_, ap, subst}
+use mathlib.Core.Path.{_≡_, refl, sym, _∙_, ap, ap₂, subst}
 use mathlib.Core.Bool.{Bool, true, false, cond, not, _&&_, _||_}
 use mathlib.Core.List.{List, []}
 use mathlib.Core.Logic.{_≢_}
@@ -10,21 +10,24 @@ use lib.Dec.{ltb, eqb}
 use lib.ListN.{getD}
 use borrow.Author.Tests.{ne-eqb}
 use Rattle.protocol.specs.declared.HeadRecord.{HeadRecord}
+use Rattle.protocol.specs.declared.Action.{Action}
+use Rattle.protocol.specs.declared.Action.the-variants.{Look}
 use Rattle.protocol.specs.declared.Setting.{Setting}
 use Rattle.protocol.specs.declared.Entry.{Entry}
 use Rattle.protocol.specs.declared.Frame.the-variants.{NoFrame, Start}
 use Rattle.protocol.specs.Words.{hasSender, hasSerial, settingAt, entryAt, entryFitsAt}
 use Rattle.protocol.specs.Record.{Kind, votes, adjusts, phaseOf, marksNumber}
-use Rattle.protocol.specs.Premises.{delivery}
-use Rattle.protocol.specs.Step.{hasMark, actionOf}
+use Rattle.protocol.specs.Step.{number, hasMark, isClosed, isSpent, takenAs, actionOf}
 use Rattle.protocol.specs.Row.{rowOf}
 use Rattle.protocol.specs.Run.{History, recordOf, frameOf, isFrame, inputOf}
+use Rattle.protocol.specs.Premises.{delivery, isEarly}
 use Rattle.protocol.specs.OpenTable.{no, openIndex, openActions}
-use Rattle.protocol.proofs.Tests.{and-false, and-true}
+use Rattle.protocol.proofs.Tests.{absurd-bool, cases, and-false, and-true, or-right}
 use Rattle.protocol.proofs.Fits.{entry-fits}
 use Rattle.protocol.proofs.Valid.{Valid, fixed}
 use Rattle.protocol.proofs.Runs.{start-sent, sent-below}
-use Rattle.head_open.proofs.Marks.{has-started, marks-below-128, made-of}
+use Rattle.head_row.proofs.Rows.{early-read}
+use Rattle.head_open.proofs.Marks.{has-started, marks-below-128, made-of, not-spent}
 use Rattle.sheet_state.specs.Arrays.{Stands}
 use Rattle.sheet_state.proofs.Standing.{valid-history, head-row, sender-row}
 use Rattle.sheet_open.specs.Open.{isOpen, senderPasses, marksAt, IsInTable}
@@ -46,18 +49,47 @@ module _ (g : Setting) (s : History) (v : Valid g s) (e : Entry) where
 
 -- THE TABLE, BY THE RECORDS
 
-apart : (a b c : Bool) → (a && not (b || c)) ≡ ((a && not b) && not c)
-apart true true c = refl
-apart true false c = refl
-apart false b c = refl
+-- a spent action is taken as a look, which is never closed
+closed-unspent : (r : HeadRecord) (a : Action) → isClosed r (takenAs r a) ≡ (isClosed r a && not (isSpent (number a) (r .vote .early) (r .adjust .early)))
+unfolding isClosed takenAs
+closed-unspent r a = go (isSpent (number a) (r .vote .early) (r .adjust .early))
+  where
+    go : (b : Bool) → isClosed r (cond b Look a) ≡ (isClosed r a && not b)
+    go true = sym (and-false (isClosed r a) false refl)
+    go false = sym (and-true (isClosed r a))
+
+-- and has no sender
+spent-plain : (a : ℕ) (vote adjust : Bool) → isSpent a vote adjust ≡ true → hasSender a ≡ false
+spent-plain a vote adjust spent = cases (hasSender a) (λ t. absurd-bool spent (sym (not-spent a vote adjust (unlike 6 refl t) (unlike 7 refl t) (unlike 9 refl t)))) (λ t. t)
+  where
+    unlike : (b : ℕ) → hasSender b ≡ false → hasSender a ≡ true → a ≢ b
+    unlike b plain t z = absurd-bool t (ap hasSender z ∙ plain)
+
+-- so where the table says no an entry is open if it is spent, and elsewhere by its sender alone
+spent-or-passes : (sent own says-no spent : Bool) → (spent ≡ true → (sent ≡ true) × (own ≡ false))
+    → (sent && not ((own || says-no) && not spent)) ≡ cond says-no spent (sent && not own)
+spent-or-passes sent own true true plain = rw (plain refl .0, plain refl .1) refl
+spent-or-passes sent own false true plain = rw (plain refl .0, plain refl .1) refl
+spent-or-passes true true true false plain = refl
+spent-or-passes true true false false plain = refl
+spent-or-passes true false true false plain = refl
+spent-or-passes true false false false plain = refl
+spent-or-passes false own true false plain = refl
+spent-or-passes false own false false plain = refl
+
+abbrev spentAt : Setting → History → Entry → Bool
+spentAt g s e = isSpent (e .action) (isEarly g votes s (e .head)) (isEarly g adjusts s (e .head))
 
 open-by : (g : Setting) (s : History) → Valid g s → (e : Entry) → e .action ≤ 9
-    → isOpen g s e ≡ (senderPasses s e && not (eqb (getD openActions (openIndex (e .action) (marksNumber (recordOf g s (e .head)))) 0) no))
+    → isOpen g s e ≡ cond (eqb (getD openActions (openIndex (e .action) (marksNumber (recordOf g s (e .head)))) 0) no) (spentAt g s e) (senderPasses s e)
 unfolding isOpen inputOf
 open-by g s v e h =
-    let made = made-of (recordOf g s (e .head)) (inputOf e (frameOf s e)) h in
-    rw (open-rule (recordOf g s (e .head)) (actionOf (inputOf e (frameOf s e))), made .0, made .1, fixed g v (e .head) .own-is)
-    (apart (not (hasSender (e .action)) || isFrame (frameOf s e)) (hasSerial (e .action) && eqb (e .sender) (e .head)) _)
+    let r = recordOf g s (e .head) in
+    let a = actionOf (inputOf e (frameOf s e)) in
+    let made = made-of r (inputOf e (frameOf s e)) h in
+    rw (closed-unspent r a, open-rule r a, made .0, made .1, fixed g v (e .head) .own-is)
+    (spent-or-passes (not (hasSender (e .action)) || isFrame (frameOf s e)) (hasSerial (e .action) && eqb (e .sender) (e .head)) _ (spentAt g s e)
+    (λ t. let plain = spent-plain (e .action) _ _ t in (rw plain refl, rw (or-right (eqb (e .action) 2) _ plain) refl)))
 
 -- BY THE ROWS: an entry after the first i
 
@@ -94,16 +126,18 @@ module _ {ws : List ℕ} {i : ℕ} {s : History} {heads : List (List ℕ)} (now 
 
   -- by the entry of the table at the index that is asked
   module _ (t : List ℕ) (table-is : t ≡ openActions) (inside : IsInTable e heads) (at j : ℕ) (u : at ≡ e .head % 16) (index-is : j ≡ openIndex (e .action) (getD (getD heads at []) 1 0)) where
-    table-says : isOpen (settingAt ws) s e ≡ (senderPasses s e && not (eqb (getD t j 0) no))
+    table-says : isOpen (settingAt ws) s e ≡ cond (eqb (getD t j 0) no) (spentAt (settingAt ws) s e) (senderPasses s e)
     table-says =
         let few = inside .0 in
         rw (table-is, index-is, head-row now is at u, marks-in (recordOf (settingAt ws) s (e .head))) (open-by (settingAt ws) s (valid-history now) e (omega arith))
 
-    pub closed-there : getD t j 0 ≡ no → false ≡ isOpen (settingAt ws) s e
-    closed-there says = sym (table-says ∙ rw says (and-false (senderPasses s e) false refl))
+    pub closed-there : getD t j 0 ≡ no → (b : Bool) → b ≡ isSpent (e .action) (eqb (getD (getD heads at []) 10 0) 1) (eqb (getD (getD heads at []) 11 0) 1) → b ≡ isOpen (settingAt ws) s e
+    closed-there says b spent =
+        let r = recordOf (settingAt ws) s (e .head) in
+        spent ∙ ap₂ (isSpent (e .action)) (early-read r votes (head-row now is at u)) (early-read r adjusts (head-row now is at u)) ∙ sym (table-says ∙ rw says refl)
 
     pub open-there : getD t j 0 ≢ no → (b : Bool) → b ≡ senderPasses s e → b ≡ isOpen (settingAt ws) s e
-    open-there says b passes = sym (table-says ∙ rw (ne-eqb (getD t j 0) no says, ← passes) (and-true b))
+    open-there says b passes = passes ∙ sym (table-says ∙ rw (ne-eqb (getD t j 0) no says) refl)
 
 -- the same at the index that a head has in the array
 pub at-index : (heads : List (List ℕ)) (e : Entry) (at : ℕ) → at ≡ e .head % 16 → IsInTable e heads → (e .action < 10) × (getD (getD heads at []) 1 0 < 128)

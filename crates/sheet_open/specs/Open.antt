@@ -7,12 +7,12 @@ use lib.ListN.{getD}
 use Rattle.protocol.specs.declared.Setting.{Setting}
 use Rattle.protocol.specs.declared.Entry.{Entry}
 use Rattle.protocol.specs.Words.{hasSender, hasSerial}
-use Rattle.protocol.specs.Step.{isClosed, actionOf}
+use Rattle.protocol.specs.Step.{isClosed, takenAs, actionOf}
 use Rattle.protocol.specs.Run.{History, recordOf, frameOf, isFrame, inputOf}
 
--- the frame that the entry delivers, if any, was sent, and its action is not closed
+-- the frame that the entry delivers, if any, was sent, and its action, as it is taken, is not closed
 unfoldable pub isOpen : Setting → History → Entry → Bool
-isOpen g s e = (not (hasSender (e .action)) || isFrame (frameOf s e)) && not (isClosed (recordOf g s (e .head)) (actionOf (inputOf e (frameOf s e))))
+isOpen g s e = (not (hasSender (e .action)) || isFrame (frameOf s e)) && not (isClosed (recordOf g s (e .head)) (takenAs (recordOf g s (e .head)) (actionOf (inputOf e (frameOf s e)))))
 
 -- document 02, "Tests on the sender": that frame was sent, and a vote or an adjust not by the head itself
 abbrev pub senderPasses : History → Entry → Bool

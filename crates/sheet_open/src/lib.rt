@@ -1,6 +1,7 @@
 // Cause 9 of an entry: whether its action is open. A table is asked for the action and its head's marks; tests on the sender stay
 // outside it.
 use head_open::has_mark;
+use head_open::is_spent;
 use protocol::Entry;
 use protocol::Row;
 use protocol::at;
@@ -64,7 +65,7 @@ fn sender_passes(e: Entry, heads: &[Row; 16]) -> bool
     }
 }
 
-// Whether an entry is open, by the table that is lent.
+// Whether an entry is open, by the table that is lent, or spent. The actions that can be spent have no sender.
 pub fn is_open(e: Entry, table: &[u8; 1280], heads: &[Row; 16]) -> bool
     requires { ⌜ IsInTable e (now heads) × (now table ≡ openActions) ⌝ }
     ensures { λ b. ⌜ ((ws : List ℕ) (i : ℕ) (s : History) → Stands ws i s (now (heads .entry)) → e ≡ entryAt ws i
@@ -73,7 +74,11 @@ pub fn is_open(e: Entry, table: &[u8; 1280], heads: &[Row; 16]) -> bool
     let h = head_index(e.head);
     let i = open_index(e.action, heads[h][at::MARKS]);
     if table[i] == b'0' {
-        return false;
+        return is_spent(
+            e.action as u32,
+            heads[h][at::VOTE_EARLY] == 1,
+            heads[h][at::ADJUST_EARLY] == 1,
+        );
     }
     sender_passes(e, heads)
 }

@@ -1,9 +1,11 @@
 -- The trace of a sheet, entry by entry: what the next entry shows, and what it leaves.
 -- Main results: `sheet-sized`, `entry-inside`; `first-follows`; `refused-next`, `accepted-next`, `ended-next`.
-use mathlib.Core.Path.{_≡_, refl, sym, _∙_, ap, subst}
+use mathlib.Core.Path.{_≡_, refl, sym, _∙_, ap, ap₂, subst}
+use mathlib.Core.Bool.{Bool}
 use mathlib.Core.List.{List, [], _∷_}
 use Prim.Native.Nat.{ℕ, zero, suc, _+_, _*_, _%_, _≤_, _<_, min}
 use native.Mathlib.Omega.{arith}
+use lib.Dec.{eqb}
 use lib.ListN.{length, getD, replicate}
 use borrow.Author.Tests.{lt-ltb, le-ltb}
 use Rattle.protocol.specs.declared.Setting.{Setting}
@@ -12,17 +14,21 @@ use Rattle.protocol.specs.declared.Cause.{Cause}
 use Rattle.protocol.specs.declared.Verdict.the-variants.{Accepted, Refused}
 use Rattle.protocol.specs.Base.{table}
 use Rattle.protocol.specs.Words.{settingAt, entryCount, placeOf, entryAt}
+use Rattle.protocol.specs.Record.{Kind, votes, adjusts}
 use Rattle.protocol.specs.Causes.{sheetVerdict}
 use Rattle.protocol.specs.Run.{History, recordOf, frameSent, runOf, runFirst}
+use Rattle.protocol.specs.Premises.{isEarly}
 use Rattle.protocol.proofs.Fits.{sheet-fits}
 use Rattle.protocol.proofs.Valid.{fixed}
 use Rattle.protocol.proofs.Ranges.{range-test, run-in-range}
 use Rattle.protocol.proofs.Runs.{goes-on, stops}
+use Rattle.head_row.specs.Promises.{earlyAt}
+use Rattle.head_row.proofs.Rows.{early-read}
 use Rattle.sheet_state.specs.Arrays.{headRows, choicesOf, carriedOf, answerAt, eventAt, Stands, Carries}
 use Rattle.sheet_state.proofs.Standing.{entry-sized, heads-few, valid-history, next-taken, row-at}
 use Rattle.trace_entries.specs.declared.Line.{Line}
 use Rattle.trace_entries.specs.declared.Traced.the-variants.{After, RefusedAt, Ended}
-use Rattle.trace_entries.specs.Trace.{lineOf, tracedAfter, traced}
+use Rattle.trace_entries.specs.Trace.{lineOf, shownAfter, tracedAfter, traced}
 use Rattle.trace_entries.specs.Follows.{Follows, GoesOn, IsLine}
 
 -- AN ACCEPTED SHEET'S WORDS
@@ -103,19 +109,31 @@ module _ {ws : List ℕ} {i : ℕ} {heads : List (List ℕ)} {choices carried : 
           time-is = refl;
         }
 
-    line-next : (l : Line) → IsLine (entryAt ws i) (getD rows (entryAt ws i .head % 16) []) l → l ≡ lineOf (entryAt ws i) (recordOf (settingAt ws) next (entryAt ws i .head))
-    line-next l is =
+    -- a mark of an early close before the entry, as the rows have it
+    early-before : (k : Kind) (h : ℕ) → h ≡ entryAt ws i .head % 16 → eqb (getD (getD heads h []) (earlyAt k) 0) 1 ≡ isEarly (settingAt ws) k (now .past) (entryAt ws i .head)
+    early-before k h index-is =
+        let q = entryAt ws i .head in
+        let low = entry-sized ws i .0 in
+        let same : h ≡ q = omega arith in
+        early-read (recordOf (settingAt ws) (now .past) q) k (ap (λ (p : ℕ). getD heads p []) same ∙ row-at (now .stands) q low)
+
+    line-next : (h : ℕ) (votesBefore adjustsBefore : Bool) (l : Line) → h ≡ entryAt ws i .head % 16 → votesBefore ≡ eqb (getD (getD heads h []) 10 0) 1 → adjustsBefore ≡ eqb (getD (getD heads h []) 11 0) 1
+        → IsLine (entryAt ws i) votesBefore adjustsBefore (getD rows h []) l → l ≡ shownAfter (settingAt ws) (entryAt ws i) next
+    line-next h votesBefore adjustsBefore l index-is votes-are adjusts-are is =
         let q = entryAt ws i .head in
         let low = entry-sized ws i .0 in
         let below = next-taken (now .stands) a .head-below in
-        let row = ap (λ (p : ℕ). getD rows p []) (let same : q % 16 ≡ q = omega arith in same) ∙ row-at stands-next q low in
+        let same : h ≡ q = omega arith in
+        let row = ap (λ (p : ℕ). getD rows p []) same ∙ row-at stands-next q low in
         is _ row (range-test (run-in-range (heads-few stands-next) (valid-history stands-next) q below)) (fixed (settingAt ws) (valid-history stands-next) q .size-is)
+        ∙ ap₂ (λ (v w : Bool). lineOf (entryAt ws i) v w (recordOf (settingAt ws) next q)) (votes-are ∙ early-before votes h index-is) (adjusts-are ∙ early-before adjusts h index-is)
 
-    pub accepted-next : (e : Entry) (h : ℕ) (l : Line) → e ≡ entryAt ws i → h ≡ e .head % 16 → IsLine e (getD rows h []) l
+    pub accepted-next : (e : Entry) (h : ℕ) (votesBefore adjustsBefore : Bool) (l : Line) → e ≡ entryAt ws i → h ≡ e .head % 16
+        → votesBefore ≡ eqb (getD (getD heads h []) 10 0) 1 → adjustsBefore ≡ eqb (getD (getD heads h []) 11 0) 1 → IsLine e votesBefore adjustsBefore (getD rows h []) l
         → (After l ≡ traced ws i) × GoesOn ws i (After l) rows named read
     unfolding lineOf
-    accepted-next e h l is index-is line =
-        let shown = line-next l (subst (λ (d : Entry). IsLine d (getD rows (d .head % 16) []) l) is (subst (λ (p : ℕ). IsLine e (getD rows p []) l) index-is line)) in (
+    accepted-next e h votesBefore adjustsBefore l is index-is votes-are adjusts-are line =
+        let shown = line-next h votesBefore adjustsBefore l (index-is ∙ ap (λ (d : Entry). d .head % 16) is) votes-are adjusts-are (subst (λ (d : Entry). IsLine d votesBefore adjustsBefore (getD rows h []) l) is line) in (
           rw (traced-run (suc i) (omega arith), stands-next .is-run, lt-ltb i (entryCount ws) (omega arith)) (ap After shown),
           λ k same. subst (λ (t : ℕ). Follows ws (i + 1) rows named read t)
               (sym (ap (λ (m : Line). m .time .0) (let z : l ≡ k = cc in sym z ∙ shown))) follows-next,

@@ -1,6 +1,6 @@
 -- What a trace keeps from entry to entry, and what one entry of it promises.
 use mathlib.Core.Path.{_≡_}
-use mathlib.Core.Bool.{true}
+use mathlib.Core.Bool.{Bool, true}
 use mathlib.Core.List.{List}
 use Prim.Native.Nat.{ℕ, _+_, _≤_}
 use lib.ListN.{length}
@@ -32,5 +32,5 @@ abbrev pub GoesOn : List ℕ → ℕ → Traced → List (List ℕ) → List ℕ
 GoesOn ws i t heads choices carried = (l : Line) → t ≡ After l → Follows ws (i + 1) heads choices carried (l .time .0)
 
 -- l is the line of the entry, for the record in its ranges that the row is of
-abbrev pub IsLine : Entry → List ℕ → Line → Type 0
-IsLine e row l = (r : HeadRecord) → row ≡ rowOf r → recordInRange r ≡ true → length (r .senders) ≡ 16 → l ≡ lineOf e r
+abbrev pub IsLine : Entry → Bool → Bool → List ℕ → Line → Type 0
+IsLine e votesBefore adjustsBefore row l = (r : HeadRecord) → row ≡ rowOf r → recordInRange r ≡ true → length (r .senders) ≡ 16 → l ≡ lineOf e votesBefore adjustsBefore r

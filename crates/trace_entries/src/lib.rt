@@ -24,7 +24,13 @@ ghost use Rattle.protocol.specs.OpenTable.{openActions};
 ghost use Rattle.trace_entries.specs.Trace.{traced};
 ghost use Rattle.trace_entries.specs.Follows.{Follows, GoesOn, IsLine};
 
-// An entry, with its head's candidate, adjuster, adjustment and outcome after it.
+// Which phases an entry closed early at its head.
+pub struct Early {
+    pub votes: bool,
+    pub adjusts: bool,
+}
+
+// An entry, with its head's candidate, adjuster, adjustment and outcome after it, and the phases that it closed early.
 pub struct Line {
     pub time: RealTime,
     pub head: u8,
@@ -33,6 +39,7 @@ pub struct Line {
     pub adjuster: OptNumber,
     pub adjustment: Reading,
     pub outcome: u8,
+    pub early: Early,
 }
 
 // After an entry; where the run was refused; past the last entry.
@@ -42,14 +49,19 @@ pub enum Traced {
     Ended,
 }
 
-fn line_of(e: Entry, row: &Row) -> Line
-    ensures { λ l. ⌜ IsLine e (now (row .entry)) l ⌝ }
+// The line of an entry, by its head's row after it and by whether the head had closed its votes and its adjust phase early before.
+fn line_of(e: Entry, votes: bool, adjusts: bool, row: &Row) -> Line
+    ensures { λ l. ⌜ IsLine e votes adjusts (now (row .entry)) l ⌝ }
 {
     let time = e.time;
     let candidate = number_in(row[at::CANDIDATE]);
     let adjuster = number_in(row[at::ADJUSTER]);
     let adjustment = Reading(row[at::ADJUSTMENT]);
     let x = result_numbers(row);
+    let early = Early {
+        votes: !votes & (row[at::VOTE_EARLY] == 1),
+        adjusts: !adjusts & (row[at::ADJUST_EARLY] == 1),
+    };
     Line {
         time,
         head: e.head,
@@ -58,6 +70,7 @@ fn line_of(e: Entry, row: &Row) -> Line
         adjuster,
         adjustment,
         outcome: (x[0] % 256) as u8,
+        early,
     }
 }
 
@@ -90,9 +103,11 @@ pub fn trace_next(
         match v {
             Verdict::Refused(c) => Traced::RefusedAt(c, 2 + 3 * i),
             Verdict::Accepted => {
-                take_entry(e, heads, choices, carried);
                 let h = head_index(e.head);
-                Traced::After(line_of(e, &heads[h]))
+                let votes = heads[h][at::VOTE_EARLY] == 1;
+                let adjusts = heads[h][at::ADJUST_EARLY] == 1;
+                take_entry(e, heads, choices, carried);
+                Traced::After(line_of(e, votes, adjusts, &heads[h]))
             }
         }
     } else {

@@ -1,8 +1,9 @@
 -- A line by its fields, and how long it can be.
 -- Main results: `field-next`, `fields-line`, `entry-line-written`.
 use mathlib.Core.Path.{_≡_, refl, sym, _∙_, ap}
+use mathlib.Core.Bool.{Bool, true, false}
 use mathlib.Core.List.{List, [], _∷_, _++_, append-assoc}
-use Prim.Native.Nat.{ℕ, _+_, _^_, _≤_, _<_}
+use Prim.Native.Nat.{ℕ, _^_, _≤_, _<_}
 use native.Mathlib.Omega.{arith}
 use lib.ListN.{length}
 use Rattle.protocol.specs.declared.OptNumber.{OptNumber}
@@ -13,7 +14,7 @@ use Rattle.print_text.proofs.Texts.{Wrote, from-first}
 use Rattle.print_lines.proofs.Lines.{and-then}
 use Rattle.print_lines.proofs.Lengths.{any-number, length-line}
 use Rattle.trace_entries.specs.declared.Line.{Line}
-use Rattle.trace_text.specs.Text.{numberText, choiceText, fields, entryText}
+use Rattle.trace_text.specs.Text.{numberText, choiceText, earlyText, fields, entryText}
 
 -- a field, and those behind it
 pub field-next : (out a b : List ℕ) (at p r : ℕ) (x : List ℕ) (l : List (List ℕ)) → length out < 2 ^ 64 → Wrote out a at p (x ++ (32 ∷ []))
@@ -39,7 +40,13 @@ number-short : (k : OptNumber) (x : ℕ) → length (numberText k x) ≤ 20
 number-short NoNumber x = omega arith
 number-short (SomeNumber k) x = any-number x
 
-entry-short : (i : ℕ) (l : Line) → length (entryText i l) ≤ 168
+early-short : (votes adjusts : Bool) → length (earlyText votes adjusts) ≤ 6
+early-short true true = omega arith
+early-short true false = omega arith
+early-short false true = omega arith
+early-short false false = omega arith
+
+entry-short : (i : ℕ) (l : Line) → length (entryText i l) ≤ 175
 unfolding entryText
 entry-short i l =
     let a = any-number i in
@@ -50,10 +57,11 @@ entry-short i l =
     let f = choice-short (l .adjuster) in
     let g = number-short (l .adjuster) (l .adjustment .0) in
     let h = any-number (l .outcome) in
+    let j = early-short (l .early .votes) (l .early .adjusts) in
     rw (length-line
     (decimal i ∷ decimal (l .time .0) ∷ decimal (l .head) ∷ decimal (l .action) ∷ choiceText (l .candidate) ∷ choiceText (l .adjuster)
-    ∷ numberText (l .adjuster) (l .adjustment .0) ∷ decimal (l .outcome) ∷ [])) (omega arith)
+    ∷ numberText (l .adjuster) (l .adjustment .0) ∷ decimal (l .outcome) ∷ earlyText (l .early .votes) (l .early .adjusts) ∷ [])) (omega arith)
 
 pub entry-line-written : (i : ℕ) (l : Line) (out after : List ℕ) (r : ℕ) → Wrote out after 0 r (entryText i l)
-    → (after ≡ written out 0 (entryText i l)) × (r ≡ length (entryText i l)) × (r ≤ 168)
-entry-line-written i l out after r w = let bound = from-first out after (entryText i l) r 168 (entry-short i l) (omega arith) w in (w .0, bound .0, bound .1)
+    → (after ≡ written out 0 (entryText i l)) × (r ≡ length (entryText i l)) × (r ≤ 175)
+entry-line-written i l out after r w = let bound = from-first out after (entryText i l) r 175 (entry-short i l) (omega arith) w in (w .0, bound .0, bound .1)

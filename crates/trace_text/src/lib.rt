@@ -1,9 +1,8 @@
-// The line that trace prints after an entry: index, real time, head, action, candidate, adjuster, adjustment and outcome, with `-`
-// where there is none.
+// The line that trace prints after an entry: index, real time, head, action, candidate, adjuster, adjustment, outcome, and the phases
+// that the entry closed early, with `-` where there is none.
 use print_lines::NEWLINE;
 use print_lines::put_field;
 use print_text::put;
-use print_text::put_decimal;
 use print_text::put_text;
 use protocol::OptNumber;
 use trace_entries::Line;
@@ -12,7 +11,7 @@ ghost use mathlib.Core.List.{[], _∷_, _++_};
 ghost use Prim.Native.Nat.{_≤_};
 ghost use lib.ListN.{length};
 ghost use Rattle.print_text.specs.Written.{written, endOf};
-ghost use Rattle.trace_text.specs.Text.{choiceText, numberText, entryFields, entryText};
+ghost use Rattle.trace_text.specs.Text.{choiceText, numberText, earlyText, entryFields, entryText};
 
 // A candidate or an adjuster, and the blank behind it.
 fn put_choice(k: OptNumber, out: &mut [u8], at: usize) -> usize
@@ -44,8 +43,27 @@ fn put_entry(i: usize, time: u32, head: u8, action: u8, out: &mut [u8], at: usiz
     put_field(action as u64, out, p)
 }
 
+// The phases that an entry closed early.
+fn put_early(votes: bool, adjusts: bool, out: &mut [u8], at: usize) -> usize
+    ensures { λ r. ⌜ (now (out .exit) ≡ written (now (out .entry)) at (earlyText votes adjusts)) × (r ≡ endOf at (earlyText votes adjusts)) ⌝ }
+{
+    if votes {
+        if adjusts {
+            put_text(out, at, b"both")
+        } else {
+            put_text(out, at, b"vote")
+        }
+    } else {
+        if adjusts {
+            put_text(out, at, b"adjust")
+        } else {
+            put_text(out, at, b"-")
+        }
+    }
+}
+
 pub fn put_entry_line(i: usize, l: Line, out: &mut [u8]) -> usize
-    ensures { λ r. ⌜ (now (out .exit) ≡ written (now (out .entry)) 0 (entryText i l)) × (r ≡ length (entryText i l)) × (r ≤ 168) ⌝ }
+    ensures { λ r. ⌜ (now (out .exit) ≡ written (now (out .entry)) 0 (entryText i l)) × (r ≡ length (entryText i l)) × (r ≤ 175) ⌝ }
 {
     let candidate = l.candidate;
     let adjuster = l.adjuster;
@@ -53,6 +71,7 @@ pub fn put_entry_line(i: usize, l: Line, out: &mut [u8]) -> usize
     let p = put_choice(candidate, out, p);
     let p = put_choice(adjuster, out, p);
     let p = put_adjustment(adjuster, l.adjustment.0, out, p);
-    let p = put_decimal(out, p, l.outcome as u64);
+    let p = put_field(l.outcome as u64, out, p);
+    let p = put_early(l.early.votes, l.early.adjusts, out, p);
     put(out, p, NEWLINE)
 }

@@ -1,7 +1,7 @@
 //! One head: three bytes for n, f and its number, then twelve for each action, for a
 //! change of the record's memory, or for a counter.
 
-use reference::board::{edges, same_counter, Both, InputNumbers};
+use reference::board::{all_spoken, edges, same_counter, Both, InputNumbers};
 
 /// A byte as a number: mostly below the limit, else any byte, or beyond a byte.
 fn number(byte: u8, limit: u32) -> u32 {
@@ -47,9 +47,14 @@ fn input_numbers(chunk: &[u8], n: u32, last: u32) -> InputNumbers {
     }
 }
 
-/// One number of the record's memory is changed.
+/// One number of the record's memory is changed, or all heads have spoken.
 fn damage(both: &Both, chunk: &[u8]) -> Both {
     let mut head = both.head;
+    match chunk[0] & 0x60 {
+        0x20 => return both.damaged(all_spoken(&head, 5)),
+        0x40 => return both.damaged(all_spoken(&head, 8)),
+        _ => {}
+    }
     let index = chunk[1] as usize % head.len();
     head[index] = match (chunk[2] & 3, &both.record) {
         (0, _) => head[index] ^ 1 << (chunk[3] & 31),

@@ -1,15 +1,26 @@
 //! `actions SEED COUNT`: takes random sequences of actions, at least COUNT of them,
 //! at one head of the proved static library and of the reference, and compares all
 //! that can be seen of both after each. Now and then the record's memory is damaged
-//! first. Stops at the first difference. Built with the feature `board`.
+//! first, or made one to which all have spoken. Stops at the first difference; fails
+//! too if 1,000,000 actions or more never had one of the early closes, a spent action,
+//! or a refusal for one of the memory's numbers. Built with the feature `board`.
 
 use std::collections::BTreeMap;
 use std::process::ExitCode;
 
 use reference::ask::seed_and_count;
-use reference::board::{edges, same_counter, Both, InputNumbers};
+use reference::board::{all_spoken, edges, same_counter, Both, InputNumbers, NUMBERS};
 use reference::random::Random;
 use reference::record::Record;
+use reference::step::is_spent;
+
+/// From this many actions on, all that can be met must have been.
+const ENOUGH: u64 = 1_000_000;
+/// The actions that may end with an early close of the votes, and of the adjust phase.
+/// 1 and 9 cannot: with a candidate, or after the vote close, 1 is closed, and 9
+/// closes the adjust phase itself.
+const CLOSE_VOTES: [usize; 5] = [2, 3, 4, 5, 8];
+const CLOSE_ADJUSTS: [usize; 7] = [2, 3, 4, 5, 6, 7, 8];
 
 /// Actions by what they met.
 #[derive(Default)]
@@ -25,6 +36,44 @@ struct Tally {
     taken: u64,
     /// By index in the record's memory, damage there alone: refused, and taken.
     alone: BTreeMap<usize, [u64; 2]>,
+    /// By action, early closes of the votes and of the adjust phase, and spent ones.
+    votes: [u64; 10],
+    adjusts: [u64; 10],
+    spent: [u64; 10],
+    /// Early closes of both by the same action.
+    at_once: u64,
+}
+
+impl Tally {
+    /// What closed early, or was spent, at an accepted action.
+    fn early(&mut self, action: usize, before: &Record, after: &Record) {
+        let votes = after.vote_early && !before.vote_early;
+        let adjusts = after.adjust_early && !before.adjust_early;
+        self.votes[action] += u64::from(votes);
+        self.adjusts[action] += u64::from(adjusts);
+        self.spent[action] += u64::from(is_spent(before, action as u32));
+        self.at_once += u64::from(votes && adjusts);
+    }
+
+    /// What was never met of early closes and damage.
+    fn missing(&self) -> Vec<String> {
+        let name = |what: &str, number: usize| format!("{what} {number}");
+        let refused = |&index: &usize| self.alone.get(&index).is_none_or(|p| p[0] == 0);
+        let votes = CLOSE_VOTES.into_iter().filter(|&a| self.votes[a] == 0);
+        let adjusts = CLOSE_ADJUSTS.into_iter().filter(|&a| self.adjusts[a] == 0);
+        let spent = [6, 7, 9].into_iter().filter(|&a| self.spent[a] == 0);
+        votes
+            .map(|a| name("early vote close by", a))
+            .chain(adjusts.map(|a| name("early adjust close by", a)))
+            .chain(spent.map(|a| name("spent", a)))
+            .chain((self.at_once == 0).then(|| "both at once".into()))
+            .chain(
+                (0..NUMBERS)
+                    .filter(refused)
+                    .map(|i| name("refusal for number", i)),
+            )
+            .collect()
+    }
 }
 
 /// A number that is mostly in its range.
@@ -75,14 +124,86 @@ fn draw(random: &mut Random, record: &Record) -> InputNumbers {
     numbers
 }
 
+/// A vote or an adjust of a head that has not yet spoken for the record's choice, so
+/// that the phase closes early before long; the next action where there is none.
+fn speak(random: &mut Random, record: &Record) -> InputNumbers {
+    let delivery = if record.vote_close || random.chance(1, 3) {
+        8
+    } else {
+        5
+    };
+    let choice = match delivery {
+        5 => record.candidate,
+        _ => record.adjuster,
+    };
+    let said = |q: u32| {
+        let kept = &record.kept[q as usize];
+        match delivery {
+            5 => (kept.latest_vote, kept.vote_serial),
+            _ => (kept.latest_adjust, kept.adjust_serial),
+        }
+    };
+    let others = (0..record.n).filter(|&q| q != record.own);
+    let silent: Vec<u32> = others
+        .filter(|&q| choice.is_none() || said(q).0 != choice)
+        .collect();
+    if silent.is_empty() || random.chance(1, 20) {
+        return draw(random, record);
+    }
+    let sender = random.pick(&silent);
+    let serial = said(sender).1.map_or(0, |last| last + 1);
+    let any = random.below(u64::from(record.n)) as u32;
+    let carried = choice.filter(|_| random.chance(15, 16)).unwrap_or(any);
+    let none = delivery == 5 && random.chance(1, 5);
+    let reading = if none { 0 } else { random.below(1 << 28) };
+    [
+        delivery,
+        record.last_reading.0 + random.below(2) as u32,
+        sender,
+        serial,
+        carried,
+        reading as u32,
+        none.into(),
+    ]
+}
+
+/// A copy of the head to which all have spoken; at times its phases are opened again.
+/// It has sent and confirmed its start, and taken its turn, as may be.
+fn spoken(random: &mut Random, both: &Both) -> Both {
+    let mut head = both.head;
+    if random.chance(1, 2) {
+        head[1] = head[1] & !7 | random.pick(&[0, 1, 3, 7]);
+    }
+    match random.below(3) {
+        0 => {
+            // Vote close, adjust turn and adjust close.
+            head[1] &= !(8 | 16 | 32);
+            head[10] = 0;
+            head[11] = 0;
+        }
+        1 => {
+            head[1] &= !32;
+            head[11] = 0;
+        }
+        _ => {}
+    }
+    for &delivery in random.pick(&[&[5][..], &[8], &[5, 8]]) {
+        head = all_spoken(&head, delivery);
+    }
+    both.damaged(head)
+}
+
 /// A copy of the head with one to three numbers of its memory changed, and the
 /// index if it is one.
 fn damage(random: &mut Random, both: &Both, record: &Record) -> (Both, Option<usize>) {
+    if random.chance(1, 4) {
+        return (spoken(random, both), None);
+    }
     let mut head = both.head;
     let changes = random.pick(&[1, 1, 1, 2, 3]);
     let mut index = 0;
     for _ in 0..changes {
-        index = random.index(80);
+        index = random.index(NUMBERS);
         head[index] = match random.below(6) {
             0 => head[index] ^ 1 << random.below(32),
             1 => (random.draw() as u32) >> random.below(32),
@@ -91,6 +212,16 @@ fn damage(random: &mut Random, both: &Both, record: &Record) -> (Both, Option<us
         };
     }
     (both.damaged(head), (changes == 1).then_some(index))
+}
+
+/// One action at both, with what it meets of early closes.
+fn act(both: &mut Both, numbers: &InputNumbers, tally: &mut Tally) -> Result<u32, String> {
+    let before = both.record.clone();
+    let cause = both.act(numbers)?;
+    if let (0, Some(before), Some(after)) = (cause, &before, &both.record) {
+        tally.early(numbers[0] as usize, before, after);
+    }
+    Ok(cause)
 }
 
 /// One action at a damaged copy of the head, from which the sequence goes on at
@@ -104,7 +235,7 @@ fn act_damaged(
     let (mut other, index) = damage(random, both, record);
     let changed = other.head != both.head;
     let numbers = draw(random, other.record.as_ref().unwrap_or(record));
-    let cause = other.act(&numbers)?;
+    let cause = act(&mut other, &numbers, tally)?;
     if changed {
         let taken = cause != 10;
         tally.taken += u64::from(taken);
@@ -136,6 +267,7 @@ fn sequence(random: &mut Random, tally: &mut Tally) -> Result<(), String> {
     let Ok(mut both) = Both::fresh(n, f, own)? else {
         return Err(format!("fresh {n} {f} {own} is refused"));
     };
+    let talks = random.chance(1, 2);
     for _ in 0..1 + random.below(120) {
         let record = both
             .record
@@ -143,8 +275,10 @@ fn sequence(random: &mut Random, tally: &mut Tally) -> Result<(), String> {
             .expect("a sequence goes on from a record");
         let cause = if random.chance(1, 8) {
             act_damaged(random, &mut both, &record, tally)?
+        } else if talks && random.chance(2, 3) {
+            act(&mut both, &speak(random, &record), tally)?
         } else {
-            both.act(&draw(random, &record))?
+            act(&mut both, &draw(random, &record), tally)?
         };
         tally.causes[cause as usize] += 1;
         tally.actions += 1;
@@ -183,10 +317,21 @@ fn main() -> ExitCode {
     let both_ways = |p: &&[u64; 2]| p[0] > 0 && p[1] > 0;
     let alone = tally.alone.values();
     println!(
-        "of 80 numbers, damaged alone: {} refused, {} taken, {} both",
+        "of {NUMBERS} numbers, damaged alone: {} refused, {} taken, {} both",
         alone.clone().filter(|p| p[0] > 0).count(),
         alone.clone().filter(|p| p[1] > 0).count(),
         alone.filter(both_ways).count()
     );
+    println!("by action 0 to 9, votes closed early: {:?}", tally.votes);
+    println!(
+        "adjust phases closed early: {:?}; both at once: {}",
+        tally.adjusts, tally.at_once
+    );
+    println!("spent: {:?}", tally.spent);
+    let missing = tally.missing();
+    if tally.actions >= ENOUGH && !missing.is_empty() {
+        println!("never met: {}", missing.join(", "));
+        return ExitCode::FAILURE;
+    }
     ExitCode::SUCCESS
 }

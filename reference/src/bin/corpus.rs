@@ -1,11 +1,11 @@
 //! `corpus SEED FILE..`: writes the stored corpus as a stream on standard output:
 //! the sheets of the files, a sheet for each entry of the table of open actions that
-//! a run can ask for, then the first 2,200 generated sheets of at most 1,800 bytes,
+//! a run can ask for, those that ask for actions after an early close, then the first 2,200 generated sheets of at most 1,800 bytes,
 //! and the first 6 of 12,290 words, in the order of their index.
 
 use std::io::{stdout, BufWriter, Write};
 
-use reference::open::{asking, in_reach};
+use reference::open::{asking, asking_early, in_reach};
 use reference::words::to_bytes;
 
 const SMALL: usize = 2_200;
@@ -30,6 +30,9 @@ fn main() -> std::io::Result<()> {
     }
     for (action, setting) in in_reach() {
         put(&mut stream, &to_bytes(&asking(action, setting)))?;
+    }
+    for (_, words) in asking_early() {
+        put(&mut stream, &to_bytes(&words))?;
     }
     let (mut small, mut full) = (0, 0);
     for index in 0.. {

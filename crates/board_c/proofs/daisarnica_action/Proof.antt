@@ -15,8 +15,8 @@ row-verdict-requires c κs = search needs
 enum-told : tie.Need-enum-told
 enum-told c = search needs
 
-effect-requires : tie.Need-effect-requires
-effect-requires c κs = search needs
+act-requires : tie.Need-act-requires
+act-requires c κs = search needs
 
 frame-numbers-requires : tie.Need-frame-numbers-requires
 frame-numbers-requires c κs = search needs
@@ -28,7 +28,7 @@ cause-number-requires : tie.Need-cause-number-requires
 cause-number-requires c κs = search needs
 
 returns : tie.Need-returns
-returns c = rw (← c .before .before .before .before .before .before .before .input-in .ensures) (action-taken _ _ (c .before .before .before .before .before .before .before .before .row-length .ensures .1) _ (c .before .before .before .before .before .row-verdict .ensures) (c .before .before .before .enum-told .given .1) _ _ (c .before .effect .ensures) _ (c .frame-numbers .ensures))
+returns c = rw (← c .before .before .before .before .before .before .before .input-in .ensures) (action-taken _ _ (c .before .before .before .before .before .before .before .before .row-length .ensures .1) _ (c .before .before .before .before .before .row-verdict .ensures) (c .before .before .before .enum-told .given .1) _ _ (c .before .act .ensures) _ (c .frame-numbers .ensures))
 
 returns-2 : tie.Need-returns-2
 returns-2 c = rw (← c .before .before .before .before .before .before .before .input-in .ensures) (action-refused _ _ _ (c .before .before .before .before .before .row-verdict .ensures) _ (c .before .before .before .v .given .1) _ (c .cause-number .ensures))
@@ -41,7 +41,7 @@ daisarnica-action-spec =
     input-in-requires
     row-verdict-requires
     enum-told
-    effect-requires
+    act-requires
     frame-numbers-requires
     enum-known-v
     cause-number-requires

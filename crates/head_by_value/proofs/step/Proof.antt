@@ -15,8 +15,8 @@ row-verdict-requires c κs = search needs
 enum-told : tie.Need-enum-told
 enum-told c = search needs
 
-effect-requires : tie.Need-effect-requires
-effect-requires c κs = search needs
+act-requires : tie.Need-act-requires
+act-requires c κs = search needs
 
 record-in-requires : tie.Need-record-in-requires
 record-in-requires c κs = search needs
@@ -33,7 +33,7 @@ returns c =
     let args = c .before .before .before .before .before .before .before .before .before .before .args in
     let long : length (of .result) ≡ rowLength = search needs in
     taken-step (args .r) (args .i) (of .result) (of .ensures) long _ (c .before .before .before .before .before .before .before .row-verdict .ensures)
-    (c .before .before .before .before .before .enum-told .given .1) _ _ (c .before .before .before .effect .ensures) _ (c .before .record-in .ensures) _ (c .frame-in .ensures)
+    (c .before .before .before .before .before .enum-told .given .1) _ _ (c .before .before .before .act .ensures) _ (c .before .record-in .ensures) _ (c .frame-in .ensures)
 
 returns-2 : tie.Need-returns-2
 returns-2 c =
@@ -49,7 +49,7 @@ step-spec =
     row-of-requires
     row-verdict-requires
     enum-told
-    effect-requires
+    act-requires
     record-in-requires
     frame-in-requires
     enum-known-v

@@ -15,6 +15,15 @@ element-copy-out-greatest-2 c = search needs
 greatest-requires-2 : tie.Need-greatest-requires-2
 greatest-requires-2 c κs = search needs
 
+element-copy-out-greatest-3 : tie.Need-element-copy-out-greatest-3
+element-copy-out-greatest-3 c = search needs
+
+element-copy-out-greatest-4 : tie.Need-element-copy-out-greatest-4
+element-copy-out-greatest-4 c = search needs
+
+greatest-requires-3 : tie.Need-greatest-requires-3
+greatest-requires-3 c κs = search needs
+
 add-one-if-less : tie.Need-add-one-if-less
 add-one-if-less c = search needs
 
@@ -72,8 +81,48 @@ add-result-2 c = search needs
 add-result-3 : tie.Need-add-result-3
 add-result-3 c = search needs
 
+add-one-if-less-5 : tie.Need-add-one-if-less-5
+add-one-if-less-5 c = search needs
+
+mul-one-if-less-5 : tie.Need-mul-one-if-less-5
+mul-one-if-less-5 c = search needs
+
+element-copy-out-one-if-less-5 : tie.Need-element-copy-out-one-if-less-5
+element-copy-out-one-if-less-5 c = search needs
+
+one-if-less-requires-5 : tie.Need-one-if-less-requires-5
+one-if-less-requires-5 c κs = search needs
+
+add-one-if-less-6 : tie.Need-add-one-if-less-6
+add-one-if-less-6 c = search needs
+
+mul-one-if-less-6 : tie.Need-mul-one-if-less-6
+mul-one-if-less-6 c = search needs
+
+element-copy-out-one-if-less-6 : tie.Need-element-copy-out-one-if-less-6
+element-copy-out-one-if-less-6 c = search needs
+
+one-if-less-requires-6 : tie.Need-one-if-less-requires-6
+one-if-less-requires-6 c κs = search needs
+
+add-result-4 : tie.Need-add-result-4
+add-result-4 c = search needs
+
+add-result-5 : tie.Need-add-result-5
+add-result-5 c = search needs
+
 returns : tie.Need-returns
-returns c = counted _ _ _ _ _ _ _ _ (c .before .before .before .before .before .before .before .before .before .before .greatest .ensures) (c .before .before .before .before .before .before .before .before .greatest2 .ensures) (c .before .before .before .before .before .before .one-if-less .ensures .0) (c .before .before .before .before .one-if-less2 .ensures .0) (c .before .before .one-if-less3 .ensures .0) (c .one-if-less4 .ensures .0)
+returns c =
+    counted _ _ _ _ _ _ _ _ _ _ _
+    (c .before .before .before .before .before .before .before .before .before .before .before .before .before .before .before .before .before .greatest .ensures)
+    (c .before .before .before .before .before .before .before .before .before .before .before .before .before .before .before .greatest2 .ensures)
+    (c .before .before .before .before .before .before .before .before .before .before .before .before .greatest3 .ensures)
+    (c .before .before .before .before .before .before .before .before .before .before .one-if-less .ensures .0)
+    (c .before .before .before .before .before .before .before .before .one-if-less2 .ensures .0)
+    (c .before .before .before .before .before .before .one-if-less3 .ensures .0)
+    (c .before .before .before .before .one-if-less4 .ensures .0)
+    (c .before .before .one-if-less5 .ensures .0)
+    (c .one-if-less6 .ensures .0)
 
 pub numbers-beyond-spec : {M : Type 1} → statement M
 numbers-beyond-spec =
@@ -83,6 +132,9 @@ numbers-beyond-spec =
     greatest-requires
     element-copy-out-greatest-2
     greatest-requires-2
+    element-copy-out-greatest-3
+    element-copy-out-greatest-4
+    greatest-requires-3
     add-one-if-less
     mul-one-if-less
     element-copy-out-one-if-less
@@ -102,4 +154,14 @@ numbers-beyond-spec =
     one-if-less-requires-4
     add-result-2
     add-result-3
+    add-one-if-less-5
+    mul-one-if-less-5
+    element-copy-out-one-if-less-5
+    one-if-less-requires-5
+    add-one-if-less-6
+    mul-one-if-less-6
+    element-copy-out-one-if-less-6
+    one-if-less-requires-6
+    add-result-4
+    add-result-5
     returns)

@@ -1,4 +1,4 @@
-use Rattle.head_ranges.specs.Parts.{spareIsZero}
+use Rattle.head_ranges.specs.Parts.{spareFits}
 use Rattle.protocol.specs.Row.{rowFits}
 use Rattle.head_ranges.proofs.Numbers.{marks-of-row}
 use borrow.Author.Needs.{needs}
@@ -14,12 +14,12 @@ element-copy-out-marks-agree-2 c = search needs
 marks-agree-requires : tie.Need-marks-agree-requires
 marks-agree-requires c κs = search needs
 
-spare-is-zero-requires : tie.Need-spare-is-zero-requires
-spare-is-zero-requires c κs = search needs
+spare-fits-requires : tie.Need-spare-fits-requires
+spare-fits-requires c κs = search needs
 
 returns : tie.Need-returns
-unfolding rowFits spareIsZero
-returns c = simp (c .spare-is-zero .ensures, marks-of-row, ← c .before .before .marks-agree .ensures, c .before .if1 .taken)
+unfolding rowFits spareFits
+returns c = simp (c .spare-fits .ensures, marks-of-row, ← c .before .before .marks-agree .ensures, c .before .if1 .taken)
 
 returns-2 : tie.Need-returns-2
 unfolding rowFits
@@ -32,6 +32,6 @@ row-fits-spec =
     element-copy-out-marks-agree
     element-copy-out-marks-agree-2
     marks-agree-requires
-    spare-is-zero-requires
+    spare-fits-requires
     returns
     returns-2)

@@ -58,9 +58,21 @@ cast-row-5 c = search needs
 array-write-row-10 : tie.Need-array-write-row-10
 array-write-row-10 c = search needs
 
+mark-number-requires : tie.Need-mark-number-requires
+mark-number-requires c κs = search needs
+
+array-write-row-11 : tie.Need-array-write-row-11
+array-write-row-11 c = search needs
+
+mark-number-requires-2 : tie.Need-mark-number-requires-2
+mark-number-requires-2 c κs = search needs
+
+array-write-row-12 : tie.Need-array-write-row-12
+array-write-row-12 c = search needs
+
 returns : tie.Need-returns
 unfolding rowOf marksNumber
-returns c = simp (c .before .before .before .before .number-plus-12 .ensures, c .before .before .before .before .before .before .number-plus-1 .ensures, c .before .before .before .before .before .before .before .marks-number .ensures)
+returns c = simp (c .mark-number2 .ensures .0, c .before .mark-number .ensures .0, c .before .before .before .before .before .before .number-plus-12 .ensures, c .before .before .before .before .before .before .before .before .number-plus-1 .ensures, c .before .before .before .before .before .before .before .before .before .marks-number .ensures)
 
 pub bare-row-spec : {M : Type 1} → statement M
 bare-row-spec =
@@ -84,4 +96,8 @@ bare-row-spec =
     array-write-row-9
     cast-row-5
     array-write-row-10
+    mark-number-requires
+    array-write-row-11
+    mark-number-requires-2
+    array-write-row-12
     returns)

@@ -50,8 +50,32 @@ mul-row-4 c = search needs
 element-write-row-4 : tie.Need-element-write-row-4
 element-write-row-4 c = search needs
 
+number-plus-1-requires-3 : tie.Need-number-plus-1-requires-3
+number-plus-1-requires-3 c κs = search needs
+
+add-row-5 : tie.Need-add-row-5
+add-row-5 c = search needs
+
+mul-row-5 : tie.Need-mul-row-5
+mul-row-5 c = search needs
+
+element-write-row-5 : tie.Need-element-write-row-5
+element-write-row-5 c = search needs
+
+number-plus-1-requires-4 : tie.Need-number-plus-1-requires-4
+number-plus-1-requires-4 c κs = search needs
+
+add-row-6 : tie.Need-add-row-6
+add-row-6 c = search needs
+
+mul-row-6 : tie.Need-mul-row-6
+mul-row-6 c = search needs
+
+element-write-row-6 : tie.Need-element-write-row-6
+element-write-row-6 c = search needs
+
 returns : tie.Need-returns
-returns c = simp (c .number-plus-12 .ensures, c .before .number-plus-1 .ensures, c .before .before .reading-plus-12 .ensures, c .before .before .before .reading-plus-1 .ensures)
+returns c = simp (c .number-plus-14 .ensures, c .before .number-plus-13 .ensures, c .before .before .number-plus-12 .ensures, c .before .before .before .number-plus-1 .ensures, c .before .before .before .before .reading-plus-12 .ensures, c .before .before .before .before .before .reading-plus-1 .ensures)
 
 pub put-sender-spec : {M : Type 1} → statement M
 put-sender-spec =
@@ -73,4 +97,12 @@ put-sender-spec =
     add-row-4
     mul-row-4
     element-write-row-4
+    number-plus-1-requires-3
+    add-row-5
+    mul-row-5
+    element-write-row-5
+    number-plus-1-requires-4
+    add-row-6
+    mul-row-6
+    element-write-row-6
     returns)

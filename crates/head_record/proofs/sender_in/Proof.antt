@@ -50,8 +50,32 @@ element-copy-out-number-in-2 c = search needs
 number-in-requires-2 : tie.Need-number-in-requires-2
 number-in-requires-2 c κs = search needs
 
+add-number-in-3 : tie.Need-add-number-in-3
+add-number-in-3 c = search needs
+
+mul-number-in-3 : tie.Need-mul-number-in-3
+mul-number-in-3 c = search needs
+
+element-copy-out-number-in-3 : tie.Need-element-copy-out-number-in-3
+element-copy-out-number-in-3 c = search needs
+
+number-in-requires-3 : tie.Need-number-in-requires-3
+number-in-requires-3 c κs = search needs
+
+add-number-in-4 : tie.Need-add-number-in-4
+add-number-in-4 c = search needs
+
+mul-number-in-4 : tie.Need-mul-number-in-4
+mul-number-in-4 c = search needs
+
+element-copy-out-number-in-4 : tie.Need-element-copy-out-number-in-4
+element-copy-out-number-in-4 c = search needs
+
+number-in-requires-4 : tie.Need-number-in-requires-4
+number-in-requires-4 c κs = search needs
+
 returns : tie.Need-returns
-returns c = simp (c .number-in2 .ensures, c .before .before .number-in .ensures, c .before .before .before .before .reading-in2 .ensures, c .before .before .before .before .before .before .reading-in .ensures)
+returns c = simp (c .number-in4 .ensures, c .before .before .number-in3 .ensures, c .before .before .before .before .number-in2 .ensures, c .before .before .before .before .before .before .number-in .ensures, c .before .before .before .before .before .before .before .before .reading-in2 .ensures, c .before .before .before .before .before .before .before .before .before .before .reading-in .ensures)
 
 pub sender-in-spec : {M : Type 1} → statement M
 sender-in-spec =
@@ -73,4 +97,12 @@ sender-in-spec =
     mul-number-in-2
     element-copy-out-number-in-2
     number-in-requires-2
+    add-number-in-3
+    mul-number-in-3
+    element-copy-out-number-in-3
+    number-in-requires-3
+    add-number-in-4
+    mul-number-in-4
+    element-copy-out-number-in-4
+    number-in-requires-4
     returns)

@@ -40,7 +40,7 @@ returns-3 c =
 returns-4 : tie.Need-returns-4
 returns-4 c =
     λ ws i s S g-is is ok W. let a = c .before .before .before .before .match .keys4 in
-    (phase-closed W ws i is votes a (c .close-breaks .ensures .0 ws i s S g-is is a (W .received-are) (W .times-are) (W .found-is)), c .close-breaks .ensures .1)
+    (phase-closed W ws i is votes a (c .close-breaks .ensures .0 ws i s S g-is is ok a (W .received-are) (W .times-are) (W .found-is)), c .close-breaks .ensures .1)
 
 returns-5 : tie.Need-returns-5
 returns-5 c =
@@ -50,7 +50,7 @@ returns-5 c =
 returns-6 : tie.Need-returns-6
 returns-6 c =
     λ ws i s S g-is is ok W. let a = c .before .before .before .before .match .keys6 in
-    (phase-closed W ws i is adjusts a (c .close-breaks2 .ensures .0 ws i s S g-is is a (W .received-are) (W .times-are) (W .found-is)), c .close-breaks2 .ensures .1)
+    (phase-closed W ws i is adjusts a (c .close-breaks2 .ensures .0 ws i s S g-is is ok a (W .received-are) (W .times-are) (W .found-is)), c .close-breaks2 .ensures .1)
 
 returns-7 : tie.Need-returns-7
 returns-7 c =

@@ -3,7 +3,7 @@ use mathlib.Core.Path.{sym, _∙_}
 use mathlib.Core.Logic.{⊎-elim}
 use borrow.Author.Tests.{eqb-true, eqb-false}
 use Rattle.sheet_state.specs.Arrays.{eventAt}
-use Rattle.judge_premises_5_to_8.specs.Closes.{phaseKind}
+use Rattle.protocol.specs.Row.{phaseKind}
 use Rattle.judge_premises_5_to_8.proofs.Receivers.{frame-received}
 use Rattle.judge_premises_5_to_8.proofs.Found.{is-over, not-over, frame-late, frame-of-faulty, frame-in-time}
 use native.Mathlib.Omega.{arith}

@@ -68,11 +68,20 @@ returns-3 c =
 has-mark-requires-2 : tie.Need-has-mark-requires-2
 has-mark-requires-2 c κs = search needs
 
+mul-if4 : tie.Need-mul-if4
+mul-if4 c = search needs
+
+index-1-if4 : tie.Need-index-1-if4
+index-1-if4 c = search needs
+
+index-2-if4 : tie.Need-index-2-if4
+index-2-if4 c = search needs
+
 returns-4 : tie.Need-returns-4
 returns-4 c =
-    let A = c .before .before .before .before .before .args in
+    let A = c .before .before .before .before .before .before .args in
     λ ws j s S g-is sets times correct unclosed.
-    no-adjust-turn S g-is (A .p) correct _ (c .before .before .before .before .head-index .ensures) (A .phase) sets (c .before .before .if1 .left) (c .before .has-mark2 .ensures) (c .if4 .taken)
+    no-adjust-turn S g-is (A .p) correct _ (c .before .before .before .before .before .head-index .ensures) (A .phase) sets (c .before .before .before .if1 .left) (c .before .before .has-mark2 .ensures) (c .if4 .taken)
 
 mul-frames-reached-2 : tie.Need-mul-frames-reached-2
 mul-frames-reached-2 c = search needs
@@ -88,9 +97,9 @@ frames-reached-requires-2 c κs = search needs
 
 returns-5 : tie.Need-returns-5
 returns-5 c =
-    let A = c .before .before .before .before .before .before .before .args in
+    let A = c .before .before .before .before .before .before .before .before .args in
     λ ws j s S g-is sets times correct unclosed.
-    adjusts-reached S g-is (A .p) correct _ (c .before .before .before .before .before .before .head-index .ensures) (A .phase) sets (c .before .before .before .before .if1 .left) (c .before .before .before .has-mark2 .ensures) (c .before .before .if4 .left) (c .frames-reached2 .ensures)
+    adjusts-reached S g-is (A .p) correct _ (c .before .before .before .before .before .before .before .head-index .ensures) (A .phase) sets (c .before .before .before .before .before .if1 .left) (c .before .before .before .before .has-mark2 .ensures) (c .before .before .if4 .left) (c .frames-reached2 .ensures)
 
 pub head-reached-spec : {M : Type 1} → statement M
 head-reached-spec =
@@ -113,6 +122,9 @@ head-reached-spec =
     frames-reached-requires
     returns-3
     has-mark-requires-2
+    mul-if4
+    index-1-if4
+    index-2-if4
     returns-4
     mul-frames-reached-2
     index-1-frames-reached-2

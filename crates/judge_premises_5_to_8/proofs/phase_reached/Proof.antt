@@ -11,7 +11,8 @@ use Rattle.protocol.proofs.Tests.{not-true, not-false}
 use Rattle.data_sets.proofs.Loops.{all-more, all-fails, all-until, if-true, if-false}
 use Rattle.sheet_state.specs.Arrays.{Stands}
 use Rattle.judge_premise_3.specs.Starts.{startTimes}
-use Rattle.judge_premises_5_to_8.specs.Closes.{phaseKind, receiverSets, headReached}
+use Rattle.protocol.specs.Row.{phaseKind}
+use Rattle.judge_premises_5_to_8.specs.Closes.{receiverSets, headReached}
 use Rattle.judge_premises_5_to_8.proofs.Reached.{phase-by-heads}
 use native.Mathlib.Omega.{arith}
 use borrow.Author.Needs.{needs}

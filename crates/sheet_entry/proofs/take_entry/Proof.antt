@@ -11,14 +11,14 @@ input-of-requires c κs = search needs
 head-index-requires : tie.Need-head-index-requires
 head-index-requires c κs = search needs
 
-mul-effect : tie.Need-mul-effect
-mul-effect c = search needs
+mul-act : tie.Need-mul-act
+mul-act c = search needs
 
-index-1-effect : tie.Need-index-1-effect
-index-1-effect c = search needs
+index-1-act : tie.Need-index-1-act
+index-1-act c = search needs
 
-effect-requires : tie.Need-effect-requires
-effect-requires c κs = search needs
+act-requires : tie.Need-act-requires
+act-requires c κs = search needs
 
 keep-frame-requires : tie.Need-keep-frame-requires
 keep-frame-requires c κs = search needs
@@ -27,7 +27,7 @@ returns : tie.Need-returns
 returns c = λ ws i s now kept is accepted.
     let made = c .before .before .before .before .before .before .input-of .ensures ws i s _ now kept is in
     let index-is = c .before .before .before .before .before .head-index .ensures in
-    let acts = c .before .before .before .effect .ensures in (
+    let acts = c .before .before .before .act .ensures in (
       heads-after now accepted is made index-is acts,
       c .keep-frame .ensures ws i s _ now kept accepted (ap (λ (e : Entry). e .head) is) (frame-after now accepted is made index-is acts),
     )
@@ -38,8 +38,8 @@ take-entry-spec =
     (tie.spec
     input-of-requires
     head-index-requires
-    mul-effect
-    index-1-effect
-    effect-requires
+    mul-act
+    index-1-act
+    act-requires
     keep-frame-requires
     returns)

@@ -1,4 +1,4 @@
-use mathlib.Core.Path.{sym, _∙_, ap}
+use mathlib.Core.Path.{refl, sym, _∙_, ap}
 use Rattle.protocol.specs.declared.Setting.{Setting}
 use Rattle.sheet_open.proofs.Open.{in-table}
 use Rattle.trace_entries.proofs.Entries.{sheet-sized, entry-inside, refused-next, accepted-next, ended-next}
@@ -10,7 +10,7 @@ entry-count-requires : tie.Need-entry-count-requires
 entry-count-requires c κs = sheet-sized _ (c .before .pre .0 .sheet) .0
 
 setting-at-requires : tie.Need-setting-at-requires
-setting-at-requires c κs = sheet-sized _ (c .before .before .before .pre .0 .sheet) .0
+setting-at-requires c κs = search needs
 
 read-entry-requires : tie.Need-read-entry-requires
 read-entry-requires c κs =
@@ -27,20 +27,38 @@ entry-verdict-requires c κs =
 enum-known-v : tie.Need-enum-known-v
 enum-known-v c = search needs
 
-mul-t19 : tie.Need-mul-t19
-mul-t19 c = search needs
+mul-t21 : tie.Need-mul-t21
+mul-t21 c = search needs
 
-add-t20 : tie.Need-add-t20
-add-t20 c = search needs
+add-t22 : tie.Need-add-t22
+add-t22 c = search needs
 
 enum-told : tie.Need-enum-told
 enum-told c = search needs
 
-take-entry-requires : tie.Need-take-entry-requires
-take-entry-requires c κs = search needs
-
 head-index-requires : tie.Need-head-index-requires
 head-index-requires c κs = search needs
+
+mul-votes : tie.Need-mul-votes
+mul-votes c = search needs
+
+index-1-votes : tie.Need-index-1-votes
+index-1-votes c = search needs
+
+index-2-votes : tie.Need-index-2-votes
+index-2-votes c = search needs
+
+mul-adjusts : tie.Need-mul-adjusts
+mul-adjusts c = search needs
+
+index-1-adjusts : tie.Need-index-1-adjusts
+index-1-adjusts c = search needs
+
+index-2-adjusts : tie.Need-index-2-adjusts
+index-2-adjusts c = search needs
+
+take-entry-requires : tie.Need-take-entry-requires
+take-entry-requires c κs = search needs
 
 mul-line-of : tie.Need-mul-line-of
 mul-line-of c = search needs
@@ -62,16 +80,18 @@ returns c =
 
 returns-2 : tie.Need-returns-2
 returns-2 c =
-    let take = c .before .before .before in
-    let verdict = take .before .before .before .before .before .before in
+    let take = c .before .before in
+    let marks = take .before .before .before in
+    let head = marks .before .before .before in
+    let verdict = head .before .before .before in
     let read = verdict .before .before .before in
     let count = read .before .before .before in
     let f = count .before .before .pre .0 in
     let e-is = read .read-entry .ensures .0 in
     let says = verdict .entry-verdict .ensures _ _ (f .past) (f .stands) (f .time-is) e-is (read .read-entry .ensures .1) in
-    let accepted = sym says ∙ take .before .before .before .before .enum-told .given .1 in
+    let accepted = sym says ∙ head .before .enum-told .given .1 in
     accepted-next f (count .entry-count .ensures) (read .before .before .if1 .taken) accepted
-    (take .take-entry .ensures _ _ (f .past) (f .stands) (f .carries) e-is accepted) _ _ _ e-is (c .before .before .head-index .ensures) (c .line-of .ensures)
+    (take .take-entry .ensures _ _ (f .past) (f .stands) (f .carries) e-is accepted) _ _ _ _ _ e-is (head .head-index .ensures) refl refl (c .line-of .ensures)
 
 returns-3 : tie.Need-returns-3
 returns-3 c = ended-next (c .before .before .before .pre .0) (c .before .entry-count .ensures) (c .if1 .left)
@@ -85,11 +105,17 @@ trace-next-spec =
     read-entry-requires
     entry-verdict-requires
     enum-known-v
-    mul-t19
-    add-t20
+    mul-t21
+    add-t22
     enum-told
-    take-entry-requires
     head-index-requires
+    mul-votes
+    index-1-votes
+    index-2-votes
+    mul-adjusts
+    index-1-adjusts
+    index-2-adjusts
+    take-entry-requires
     mul-line-of
     index-1-line-of
     line-of-requires

@@ -1,16 +1,16 @@
+use Rattle.head_step.proofs.Effects.{adjust-passed-over, adjust-taken}
 use borrow.Author.Needs.{needs}
-use Rattle.head_step.proofs.Effects.{adjust-passed-over, adjust-adopted, adjust-kept}
 use Rattle.head_step.proofs.actions.adjust_delivered.Statement.{statement}
 use Rattle.head_step.proofs.actions.adjust_delivered.Tie as tie
-
-head-index-requires : tie.Need-head-index-requires
-head-index-requires c κs = search needs
 
 element-copy-out-has-mark : tie.Need-element-copy-out-has-mark
 element-copy-out-has-mark c = search needs
 
 has-mark-requires : tie.Need-has-mark-requires
 has-mark-requires c κs = search needs
+
+head-index-requires : tie.Need-head-index-requires
+head-index-requires c κs = search needs
 
 add-passed-over : tie.Need-add-passed-over
 add-passed-over c = search needs
@@ -30,72 +30,35 @@ no-frame-requires c κs = search needs
 returns : tie.Need-returns
 returns c = λ lp ls la r is fit.
     let d = c .before .before in
-    adjust-passed-over _ _ _ _ _ _ _ _ (d .before .before .before .before .head-index .ensures)
-    (d .before .before .has-mark .ensures) (d .passed-over .ensures) lp ls la r is fit
-    _ (c .before .if1 .taken) (c .no-frame .ensures)
+    adjust-passed-over _ _ _ _ _ _ _ _ (d .before .before .head-index .ensures) (d .before .before .before .has-mark .ensures) (d .passed-over .ensures)
+    lp ls la r is fit _ (c .before .if1 .taken) (c .no-frame .ensures)
 
-wrapping-add-u32-requires : tie.Need-wrapping-add-u32-requires
-wrapping-add-u32-requires c κs = search needs
+take-adjust-requires : tie.Need-take-adjust-requires
+take-adjust-requires c κs = search needs
 
-add-row : tie.Need-add-row
-add-row c = search needs
-
-mul-row : tie.Need-mul-row
-mul-row c = search needs
-
-element-write-row : tie.Need-element-write-row
-element-write-row c = search needs
-
-element-copy-out-outranks : tie.Need-element-copy-out-outranks
-element-copy-out-outranks c = search needs
-
-outranks-requires : tie.Need-outranks-requires
-outranks-requires c κs = search needs
-
-adjust-requires : tie.Need-adjust-requires
-adjust-requires c κs = search needs
+close-early-requires : tie.Need-close-early-requires
+close-early-requires c κs = search needs
 
 returns-2 : tie.Need-returns-2
 returns-2 c = λ lp ls la r is fit.
-    let o = c .before .before .before in
-    let d = o .before .before .before .before in
-    adjust-adopted _ _ _ _ _ _ _ _ (d .before .before .before .before .head-index .ensures)
-    (d .before .before .has-mark .ensures) (d .passed-over .ensures) lp ls la r is fit
-    _ (o .before .before .wrapping-add-u32 .ensures) _ (o .outranks .ensures)
-    _ (o .before .before .before .if1 .left) _ (c .before .before .if2 .taken) (c .adjust .ensures)
-
-no-frame-requires-2 : tie.Need-no-frame-requires-2
-no-frame-requires-2 c κs = search needs
-
-returns-3 : tie.Need-returns-3
-returns-3 c = λ lp ls la r is fit.
-    let o = c .before .before in
-    let d = o .before .before .before .before in
-    adjust-kept _ _ _ _ _ _ _ _ (d .before .before .before .before .head-index .ensures)
-    (d .before .before .has-mark .ensures) (d .passed-over .ensures) lp ls la r is fit
-    _ (o .before .before .wrapping-add-u32 .ensures) _ (o .outranks .ensures)
-    _ (o .before .before .before .if1 .left) (c .before .if2 .left) (c .no-frame2 .ensures)
+    let t = c .before .before in
+    let d = t .before .before .before in
+    adjust-taken _ _ _ _ _ _ _ _ (d .before .before .head-index .ensures) (d .before .before .before .has-mark .ensures) (d .passed-over .ensures)
+    lp ls la r is fit _ _ _ (t .before .before .if1 .left) (t .take-adjust .ensures) (c .close-early .ensures)
 
 pub adjust-delivered-spec : {M : Type 1} → statement M
 adjust-delivered-spec =
     tie.close
     (tie.spec
-    head-index-requires
     element-copy-out-has-mark
     has-mark-requires
+    head-index-requires
     add-passed-over
     mul-passed-over
     element-copy-out-passed-over
     passed-over-requires
     no-frame-requires
     returns
-    wrapping-add-u32-requires
-    add-row
-    mul-row
-    element-write-row
-    element-copy-out-outranks
-    outranks-requires
-    adjust-requires
-    returns-2
-    no-frame-requires-2
-    returns-3)
+    take-adjust-requires
+    close-early-requires
+    returns-2)

@@ -1,5 +1,5 @@
-use borrow.Author.Needs.{needs}
 use Rattle.head_step.proofs.Effects.{vote-turn-acts}
+use borrow.Author.Needs.{needs}
 use Rattle.head_step.proofs.actions.vote_turn.Statement.{statement}
 use Rattle.head_step.proofs.actions.vote_turn.Tie as tie
 
@@ -15,8 +15,11 @@ element-write-row c = search needs
 lead-requires : tie.Need-lead-requires
 lead-requires c κs = search needs
 
+close-early-requires : tie.Need-close-early-requires
+close-early-requires c κs = search needs
+
 returns : tie.Need-returns
-returns c = vote-turn-acts _ _ _ _ (c .before .before .with-mark .ensures) (c .lead .ensures)
+returns c = vote-turn-acts _ _ _ _ _ (c .close-early .ensures) (c .before .before .before .before .with-mark .ensures) (c .before .before .lead .ensures)
 
 pub vote-turn-spec : {M : Type 1} → statement M
 vote-turn-spec =
@@ -26,4 +29,5 @@ vote-turn-spec =
     with-mark-requires
     element-write-row
     lead-requires
+    close-early-requires
     returns)

@@ -1,5 +1,5 @@
-use borrow.Author.Needs.{needs}
 use Rattle.head_step.proofs.Sends.{vote-gives}
+use borrow.Author.Needs.{needs}
 use Rattle.head_step.proofs.frames.vote.Statement.{statement}
 use Rattle.head_step.proofs.frames.vote.Tie as tie
 
@@ -54,11 +54,27 @@ mul-row c = search needs
 element-write-row-4 : tie.Need-element-write-row-4
 element-write-row-4 c = search needs
 
+wrapping-add-u32-requires-3 : tie.Need-wrapping-add-u32-requires-3
+wrapping-add-u32-requires-3 c κs = search needs
+
+head-index-requires-3 : tie.Need-head-index-requires-3
+head-index-requires-3 c κs = search needs
+
+add-row-2 : tie.Need-add-row-2
+add-row-2 c = search needs
+
+mul-row-2 : tie.Need-mul-row-2
+mul-row-2 c = search needs
+
+element-write-row-5 : tie.Need-element-write-row-5
+element-write-row-5 c = search needs
+
 returns : tie.Need-returns
 returns c =
     let d = c .before .before .before in
-    vote-gives _ _ _ _ _ _ _ (d .with-mark .ensures) (c .before .before .wrapping-add-u32 .ensures) (c .before .wrapping-add-u322 .ensures)
-    (d .before .before .before .head-index .ensures) (c .head-index2 .ensures)
+    let m = d .before .before in
+    vote-gives _ _ _ _ _ _ _ _ _ (m .with-mark .ensures) (d .before .wrapping-add-u32 .ensures) (d .wrapping-add-u322 .ensures)
+    (m .before .before .before .head-index .ensures) (c .before .before .head-index2 .ensures) (c .before .wrapping-add-u323 .ensures) (c .head-index3 .ensures)
 
 pub vote-spec : {M : Type 1} → statement M
 vote-spec =
@@ -81,4 +97,9 @@ vote-spec =
     add-row
     mul-row
     element-write-row-4
+    wrapping-add-u32-requires-3
+    head-index-requires-3
+    add-row-2
+    mul-row-2
+    element-write-row-5
     returns)
