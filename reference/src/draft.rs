@@ -8,7 +8,7 @@ use crate::words::{counts_allowed, write_sheet};
 use crate::words::{Cause, Entry, Reading, RealTime, Settings, TIME_LIMIT};
 
 /// Action, head and sender of an entry.
-type Act = (u32, u32, u32);
+pub type Act = (u32, u32, u32);
 
 /// "The room is known beforehand: 2 + 3 × (3n² + 4n) words."
 pub fn room(n: u32) -> usize {
@@ -67,7 +67,7 @@ fn round(n: u32) -> Vec<Vec<Act>> {
 
 /// "clocks equal to real time". Each head votes and adjusts once, so the serials
 /// are 0.
-fn entry(time: u32, (action, head, sender): Act) -> Entry {
+pub fn entry(time: u32, (action, head, sender): Act) -> Entry {
     Entry {
         time: RealTime(time),
         reading: Reading(time),

@@ -2,13 +2,14 @@
 //! the premises ask of sheets in which heads close early, or some do.
 
 use reference::claim;
+use reference::draft::{entry, Act};
 use reference::fast;
 use reference::judge::{judge, keeps};
 use reference::program::printed;
 use reference::record::Record;
 use reference::sheet::{run, Run};
 use reference::step::{step, Frame, Input};
-use reference::words::{to_bytes, write_sheet, Cause, Entry, Reading, RealTime, Settings};
+use reference::words::{to_bytes, write_sheet, Cause, Entry, Reading, Settings};
 
 /// An action without a frame, at a reading.
 fn act(action: u32, reading: u32) -> Input {
@@ -281,9 +282,6 @@ fn record_ranges() {
     }));
 }
 
-/// Action, head and sender; the serial is 0.
-type Act = (u32, u32, u32);
-
 /// The sheet of n heads with these entries, one each microsecond, and clocks that
 /// show real time.
 fn sheet(n: u32, f: u32, correct: u32, acts: &[Act]) -> Vec<u32> {
@@ -296,14 +294,7 @@ fn sheet(n: u32, f: u32, correct: u32, acts: &[Act]) -> Vec<u32> {
     };
     let entries: Vec<Entry> = (0..)
         .zip(acts)
-        .map(|(time, &(action, head, sender))| Entry {
-            time: RealTime(time),
-            reading: Reading(time),
-            action,
-            head,
-            sender,
-            serial: 0,
-        })
+        .map(|(time, &act)| entry(time, act))
         .collect();
     write_sheet(&settings, &entries)
 }

@@ -20,7 +20,7 @@ use Rattle.protocol.specs.declared.OptReading.{OptReading}
 use Rattle.protocol.specs.declared.Sender.{Sender}
 use Rattle.protocol.specs.declared.HeadRecord.{HeadRecord}
 use Rattle.protocol.specs.Record.{noSender, keptOf, startOf, voteOf, Kind, votes, adjusts, phaseOf, latestOf, marksNumber}
-use Rattle.protocol.specs.Step.{withStart, withVoteReading, withVoted, withAdjusted, withCandidate, withAdjuster, choose, earlyIf, withLast, withVote, withAdjust, withPhase, withSender}
+use Rattle.protocol.specs.Step.{withStart, withVoteReading, withVoted, withAdjusted, withCandidate, withAdjuster, choose, earlyIf, withLast, withVote, withAdjust, withPhase, withSender, keepVote, keepAdjust}
 use Rattle.protocol.specs.Row.{numberPlus1, readingPlus1, ownNumbers, startNumber, voteNumber, votedNumber, adjustedNumber, latestNumber, rowLength, rowOf, phaseKind}
 use Rattle.protocol.proofs.Tests.{is-1}
 use Rattle.protocol.proofs.Effects.{withSenders}
@@ -183,7 +183,7 @@ module _ (r : HeadRecord) (long : length (r .senders) ≡ 16) (p : ℕ) (below :
 
   -- what is kept of a delivered vote: its reading, its serial, and whom it names
   pub taken-vote-written : (x : OptReading) (j c : ℕ)
-      → set (set (set (rowOf r) (32 + p) (readingPlus1 x)) (48 + p) (j + 1)) (80 + p) (c + 1) ≡ rowOf (withSender r p (withCandidate (withVoted (withVoteReading (keptOf r p) x) j) c))
+      → set (set (set (rowOf r) (32 + p) (readingPlus1 x)) (48 + p) (j + 1)) (80 + p) (c + 1) ≡ rowOf (withSender r p (keepVote (keptOf r p) j c x))
   taken-vote-written x j c =
       let k = withVoteReading (keptOf r p) x in
       ap (λ (l : List ℕ). set (set l (48 + p) (j + 1)) (80 + p) (c + 1)) (vote-written r long p below x)
@@ -191,7 +191,7 @@ module _ (r : HeadRecord) (long : length (r .senders) ≡ 16) (p : ℕ) (below :
       ∙ next-written 4 (c + 1) (withVoted k j) (withCandidate (withVoted k j) c) (omega arith) refl
 
   -- and of a delivered adjust
-  pub taken-adjust-written : (j a : ℕ) → set (set (rowOf r) (64 + p) (j + 1)) (96 + p) (a + 1) ≡ rowOf (withSender r p (withAdjuster (withAdjusted (keptOf r p) j) a))
+  pub taken-adjust-written : (j a : ℕ) → set (set (rowOf r) (64 + p) (j + 1)) (96 + p) (a + 1) ≡ rowOf (withSender r p (keepAdjust (keptOf r p) j a))
   taken-adjust-written j a =
       let k = withAdjusted (keptOf r p) j in
       ap (λ (l : List ℕ). set l (96 + p) (a + 1)) (adjusted-written r long p below j) ∙ next-written 5 (a + 1) k (withAdjuster k a) (omega arith) refl

@@ -26,7 +26,7 @@ use Rattle.protocol.specs.declared.Action.{Action}
 use Rattle.protocol.specs.declared.Action.the-variants.{Look, StartSent, StartDelivered, StartConfirmed, VoteTurn, VoteDelivered, VoteClose}
 use Rattle.protocol.specs.declared.Action.the-variants.{AdjustTurn, AdjustDelivered, AdjustClose}
 use Rattle.protocol.specs.Record.{Kind, votes, adjusts, phaseOf, isNumber, reading, readingOr0, keptOf, marksNumber}
-use Rattle.protocol.specs.Step.{takeTurn, withStart, withVoteReading, withVoted, withAdjusted, withCandidate, withAdjuster, withSender, silent, vote, adjust, mayLead, lead, propose}
+use Rattle.protocol.specs.Step.{takeTurn, withStart, withSender, keepVote, keepAdjust, silent, vote, adjust, mayLead, lead, propose}
 use Rattle.protocol.specs.Step.{isAbove, isPassedOver, outranks, delivered, effect, hasMark, isTested, act, takenAs}
 use Rattle.protocol.specs.Row.{numberPlus1, readingPlus1, ownNumbers, rowOf, sentOf}
 use Rattle.protocol.proofs.Tests.{absurd-bool, cases, cond-elim, not-true, and-left, and-right}
@@ -239,7 +239,7 @@ module _ (row : List ℕ) (p serial c x q w n : ℕ) (q-is : q ≡ p % 16) (w-is
   module _ (lp : p < 16) (ls : serial < 16) (lc : c < 16) (y : OptReading) (x-is : x ≡ readingPlus1 y) (ly : readingOr0 y < 2 ^ 28)
       (r : HeadRecord) (is : row ≡ rowOf r) (fit : Fits r) where
     abbrev voteTaken : HeadRecord
-    voteTaken = withSender r p (withCandidate (withVoted (withVoteReading (keptOf r p) y) serial) c)
+    voteTaken = withSender r p (keepVote (keptOf r p) serial c y)
 
     vote-row-is : voteRow ≡ rowOf voteTaken
     vote-row-is =
@@ -291,7 +291,7 @@ module _ (row : List ℕ) (p serial a x q w n : ℕ) (q-is : q ≡ p % 16) (w-is
 
   module _ (lp : p < 16) (ls : serial < 16) (la : a < 16) (r : HeadRecord) (is : row ≡ rowOf r) (fit : Fits r) where
     abbrev adjustTaken : HeadRecord
-    adjustTaken = withSender r p (withAdjuster (withAdjusted (keptOf r p) serial) a)
+    adjustTaken = withSender r p (keepAdjust (keptOf r p) serial a)
 
     adjust-row-is : adjustRow ≡ rowOf adjustTaken
     adjust-row-is =

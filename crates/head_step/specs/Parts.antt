@@ -6,7 +6,7 @@ use Rattle.protocol.specs.declared.OptReading.{OptReading}
 use Rattle.protocol.specs.declared.HeadRecord.{HeadRecord}
 use Rattle.protocol.specs.declared.Stepped.{Stepped}
 use Rattle.protocol.specs.Record.{Kind, votes, adjusts, keptOf}
-use Rattle.protocol.specs.Step.{withVoteReading, withVoted, withAdjusted, withCandidate, withAdjuster, withSender, silent, vote, adjust, outranks, hasMark, closeEarly}
+use Rattle.protocol.specs.Step.{withSender, keepVote, keepAdjust, silent, vote, adjust, outranks, hasMark, closeEarly}
 
 -- the weight of a phase's close mark
 abbrev pub closeWeight : Kind → ℕ
@@ -25,10 +25,10 @@ closes r = closeEarly adjusts true (closeEarly votes true r)
 -- a vote and an adjust that are not passed over: the last line of delivered
 abbrev pub takeVote : ℕ → ℕ → ℕ → OptReading → HeadRecord → Stepped
 takeVote p serial c x r =
-    let taken = withSender r p (withCandidate (withVoted (withVoteReading (keptOf r p) x) serial) c) in
+    let taken = withSender r p (keepVote (keptOf r p) serial c x) in
     cond (outranks c (r .vote .choice)) (vote c taken) (silent taken)
 
 abbrev pub takeAdjust : ℕ → ℕ → ℕ → Reading → HeadRecord → Stepped
 takeAdjust p serial a x r =
-    let taken = withSender r p (withAdjuster (withAdjusted (keptOf r p) serial) a) in
+    let taken = withSender r p (keepAdjust (keptOf r p) serial a) in
     cond (outranks a (r .adjust .choice)) (adjust a x taken) (silent taken)

@@ -16,7 +16,7 @@ use Rattle.protocol.specs.Types.{Action, Look, StartSent, StartDelivered
 use Rattle.protocol.specs.Words.{hasSender}
 use Rattle.protocol.specs.Record.{isNumber, reading, noSender, keptOf, startOf, voteOf}
 use Rattle.protocol.specs.Median.{median}
-use Rattle.protocol.specs.Step.{choose, earlyIf, withStart, withVoteReading, withVoted, withAdjusted, withCandidate, withAdjuster, withLast, accepted, silent, vote, adjust, mayLead, lead, voteReadings, mayAdjust, propose, isPassedOver, outranks, delivered, effect, isClosed, sameNumber, allSpoken, isUnderWay, mayClose, closeEarly, concluded, isTested, act, takenAs}
+use Rattle.protocol.specs.Step.{choose, earlyIf, withStart, withLast, keepVote, keepAdjust, accepted, silent, vote, adjust, mayLead, lead, voteReadings, mayAdjust, propose, isPassedOver, outranks, delivered, effect, isClosed, sameNumber, allSpoken, isUnderWay, mayClose, closeEarly, concluded, isTested, act, takenAs}
 use Rattle.protocol.specs.Run.{isDeliveredBy, carriedReading}
 pub use Rattle.protocol.specs.Record.{Kind, votes, adjusts, phaseOf, latestOf}
 pub use Rattle.protocol.specs.Step.{number}
@@ -114,8 +114,8 @@ ignored r p (Adjust j c x) = passedOver adjusts r p j
 abbrev pub keptAfter : HeadRecord → ℕ → Frame → Sender
 keptAfter r p NoFrame = keptOf r p
 keptAfter r p Start = withStart (keptOf r p) (SomeReading (r .last))
-keptAfter r p (Vote j c x) = withCandidate (withVoted (withVoteReading (keptOf r p) x) j) c
-keptAfter r p (Adjust j c x) = withAdjuster (withAdjusted (keptOf r p) j) c
+keptAfter r p (Vote j c x) = keepVote (keptOf r p) j c x
+keptAfter r p (Adjust j c x) = keepAdjust (keptOf r p) j c
 
 abbrev pub sendersAfter : HeadRecord → ℕ → Frame → List Sender
 sendersAfter r p x = cond (ignored r p x) (r .senders) (set (r .senders) p (keptAfter r p x))
@@ -681,7 +681,7 @@ own-kept r StartConfirmed e = refl
 own-kept r VoteTurn e = refl
 own-kept r (VoteDelivered p k c x) e = go (passedOver votes r p k)
   where
-    go : (b : Bool) → getD (cond b (r .senders) (set (r .senders) p (withCandidate (withVoted (withVoteReading (keptOf r p) x) k) c))) (r .own) noSender .vote ≡ voteOf r (r .own)
+    go : (b : Bool) → getD (cond b (r .senders) (set (r .senders) p (keepVote (keptOf r p) k c x))) (r .own) noSender .vote ≡ voteOf r (r .own)
     go true = refl
     go false = ap (λ (z : Sender). z .vote) (getD-set-other (r .senders) p (r .own) _ noSender (λ d. eqb-false p (r .own) (or-left (eqb p (r .own)) false e) (sym d)))
 own-kept r VoteClose e = refl

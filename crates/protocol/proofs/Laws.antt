@@ -19,7 +19,7 @@ use Rattle.protocol.specs.Types.{Stepped, Vote, Accepted, Refused, Cause
 use Rattle.protocol.specs.Types.{Action, Look, StartSent, StartDelivered, StartConfirmed, VoteTurn, VoteDelivered, VoteClose, AdjustTurn, AdjustDelivered, AdjustClose}
 use Rattle.protocol.specs.Words.{isCorrect}
 use Rattle.protocol.specs.Record.{isReading, isNumber, readingOr0, numberOr0, reading, noSender, keptOf, startOf, voteOf, startOfChoice, chosenStart, outcome, recordInRange}
-use Rattle.protocol.specs.Step.{withVoteReading, withVoted, withAdjusted, withCandidate, withAdjuster, withLast, silent, refused, vote, adjust, startsHeld, mayLead, lead, voteReadings, mayAdjust, propose, isAbove, isPassedOver, outranks, delivered, effect, isClosed, sameNumber, allSpoken, isUnderWay, mayClose, isTested, act, takenAs, takeAction, actionOf, inputFits, step}
+use Rattle.protocol.specs.Step.{withLast, keepVote, keepAdjust, silent, refused, vote, adjust, startsHeld, mayLead, lead, voteReadings, mayAdjust, propose, isAbove, isPassedOver, outranks, delivered, effect, isClosed, sameNumber, allSpoken, isUnderWay, mayClose, isTested, act, takenAs, takeAction, actionOf, inputFits, step}
 use Rattle.protocol.specs.Run.{Event, History, recordOf}
 use Rattle.protocol.specs.Results.{ifAdopted, outcomeWord, adjustmentWord, startWord, headWords}
 use Rattle.protocol.specs.Premises.{closing, each, isSteady, correctTakes, correctCloses, premise2, premise5, noneBetween, premise6, premise7, premise8}
@@ -153,10 +153,10 @@ vote-keeps-others c r p d = getD-set-other (r .senders) (r .own) p _ noSender d
 
 -- a vote is delivered from another head p, with a serial above the last one taken, before the vote close
 module _ (r : HeadRecord) (p k c : ℕ) (x : OptReading) (h : p < length (r .senders)) (d : p ≢ r .own) (o : r .vote .closed ≡ false) (a : Above k (keptOf r p .voted)) where
-  vote-taken : keptOf (effect r (VoteDelivered p k c x) .after) p ≡ withCandidate (withVoted (withVoteReading (keptOf r p) x) k) c
+  vote-taken : keptOf (effect r (VoteDelivered p k c x) .after) p ≡ keepVote (keptOf r p) k c x
   unfolding effect
   vote-taken =
-      taken-or-adopted (r .vote) (keptOf r p .voted) k c r _ (vote c) (λ (t : Stepped). keptOf (t .after) p ≡ withCandidate (withVoted (withVoteReading (keptOf r p) x) k) c) o a
+      taken-or-adopted (r .vote) (keptOf r p .voted) k c r _ (vote c) (λ (t : Stepped). keptOf (t .after) p ≡ keepVote (keptOf r p) k c x) o a
       (λ _. vote-keeps-others c _ p d ∙ getD-set-same (r .senders) p _ noSender h) (λ _. getD-set-same (r .senders) p _ noSender h)
 
   -- 5: "the carried reading (or none) becomes the sender's vote reading"
@@ -177,11 +177,11 @@ module _ (r : HeadRecord) (p k c : ℕ) (x : OptReading) (h : p < length (r .sen
 
 -- 8: "as 5, with adjuster and adjustment"
 module _ (r : HeadRecord) (p k a : ℕ) (x : Reading) (h : p < length (r .senders)) (d : p ≢ r .own) (o : r .adjust .closed ≡ false) (b : Above k (keptOf r p .adjusted)) where
-  adjust-taken : keptOf (effect r (AdjustDelivered p k a x) .after) p ≡ withAdjuster (withAdjusted (keptOf r p) k) a
+  adjust-taken : keptOf (effect r (AdjustDelivered p k a x) .after) p ≡ keepAdjust (keptOf r p) k a
   unfolding effect adjust
   adjust-taken =
-      let stored = getD-set-same (r .senders) p (withAdjuster (withAdjusted (keptOf r p) k) a) noSender h in
-      taken-or-adopted (r .adjust) (keptOf r p .adjusted) k a r _ (adjust a x) (λ (t : Stepped). keptOf (t .after) p ≡ withAdjuster (withAdjusted (keptOf r p) k) a) o b
+      let stored = getD-set-same (r .senders) p (keepAdjust (keptOf r p) k a) noSender h in
+      taken-or-adopted (r .adjust) (keptOf r p .adjusted) k a r _ (adjust a x) (λ (t : Stepped). keptOf (t .after) p ≡ keepAdjust (keptOf r p) k a) o b
       (λ _. getD-set-other (set (r .senders) p _) (r .own) p _ noSender d ∙ stored) (λ _. stored)
 
   pub latest-adjust-taken : keptOf (effect r (AdjustDelivered p k a x) .after) p .adjuster ≡ SomeNumber a

@@ -45,6 +45,13 @@ withCandidate k c = record { start = k .start; vote = k .vote; voted = k .voted;
 abbrev pub withAdjuster : Sender → ℕ → Sender
 withAdjuster k a = record { start = k .start; vote = k .vote; voted = k .voted; adjusted = k .adjusted; candidate = k .candidate; adjuster = SomeNumber a }
 
+-- what is kept of the sender of a vote, or an adjust, that is taken: its serial, whom it names (document 02, No. 4), and a vote's reading
+abbrev pub keepVote : Sender → ℕ → ℕ → OptReading → Sender
+keepVote k serial c x = withCandidate (withVoted (withVoteReading k x) serial) c
+
+abbrev pub keepAdjust : Sender → ℕ → ℕ → Sender
+keepAdjust k serial a = withAdjuster (withAdjusted k serial) a
+
 abbrev pub withLast : HeadRecord → Reading → HeadRecord
 withLast r x = record { n = r .n; f = r .f; own = r .own; last = x; started = r .started; confirmed = r .confirmed; vote = r .vote; adjust = r .adjust; adjustment = r .adjustment; senders = r .senders }
 
@@ -148,12 +155,12 @@ effect r (StartDelivered p) = cond (r .adjust .closed) (silent r) (lead (withSen
 effect r StartConfirmed = silent (withMarks r (r .started) true)
 effect r VoteTurn = lead (withVote r (takeTurn (r .vote)))
 -- "5 vote delivered .. the carried reading (or none) becomes the sender's vote reading"; document 02, No. 4: it is the sender's latest vote
-effect r (VoteDelivered p k c x) = delivered (r .vote) (keptOf r p .voted) k c r (withSender r p (withCandidate (withVoted (withVoteReading (keptOf r p) x) k) c)) (vote c)
+effect r (VoteDelivered p k c x) = delivered (r .vote) (keptOf r p .voted) k c r (withSender r p (keepVote (keptOf r p) k c x)) (vote c)
 -- "6 vote close", "7 adjust turn"
 effect r VoteClose = silent (withVote r (close (r .vote)))
 effect r AdjustTurn = propose (withAdjust r (takeTurn (r .adjust)) (r .adjustment))
 -- "8 adjust delivered: as 5, with adjuster and adjustment, until the adjust close; taken before the vote close too"
-effect r (AdjustDelivered p k a x) = delivered (r .adjust) (keptOf r p .adjusted) k a r (withSender r p (withAdjuster (withAdjusted (keptOf r p) k) a)) (adjust a x)
+effect r (AdjustDelivered p k a x) = delivered (r .adjust) (keptOf r p .adjusted) k a r (withSender r p (keepAdjust (keptOf r p) k a)) (adjust a x)
 -- "9 adjust close"
 effect r AdjustClose = silent (withAdjust r (close (r .adjust)) (r .adjustment))
 

@@ -1,6 +1,7 @@
 // Prints, after every entry of a run sheet: its index, real time, head and action, then the head's candidate, adjuster
-// and adjustment (- for none) and outcome, and which phases the entry closed early: vote, adjust, both, or -. Its last line: `refused`, the cause's number and the place; or `premises`, the first
-// broken premise or 0, and where it was broken: `entry` and its index, or `end`.
+// and adjustment (- for none) and outcome, and which phases the entry closed early: vote, adjust, both, or -. Its last line:
+// `refused`, the cause's number and the place; or `premises`, the first broken premise or 0, and where it was broken: `entry` and
+// its index, or `end`.
 // The sheet comes on standard input; it has at most 49,160 bytes, so one that fills the buffer is too long.
 use data_bytes::big_endian;
 use data_bytes::bytes_verdict;
