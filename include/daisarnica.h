@@ -36,7 +36,10 @@ typedef struct {
  *
  * The timers' actions may still be called: after an early close of the vote phase any VOTE_CLOSE, after one of the adjust
  * phase any ADJUST_TURN or ADJUST_CLOSE, returns 0, changes nothing but the last reading and sends no frame. So firmware
- * need not know whether a phase closed early: it starts its timers and calls their actions as before. */
+ * need not know whether a phase closed early: it starts its timers and calls their actions as before.
+ *
+ * Of the start readings that votes carry, the adjustment is the median of those voted for the candidate that the head has at
+ * its adjust turn: when it goes on to another candidate it drops the others, and a vote for another one leaves none. */
 enum {
     DAISARNICA_LOOK = 0,             /* only a reading */
     DAISARNICA_START_SENT = 1,       /* the start is the frame to send */

@@ -1,6 +1,6 @@
 //! One head of the proved static library beside the reference's: each action is
 //! taken by both, and all that can be seen of them is compared. The record's
-//! layout is the library's own; its ranges are document 01's.
+//! layout is the library's own; its ranges are those of documents 01 and 02.
 
 use crate::counter::counter_reading;
 use crate::record::{Kept, Record};
@@ -121,6 +121,16 @@ pub fn all_spoken(head: &Head, delivery: u32) -> Head {
     let n = (head[7] as usize).min(MAX_HEADS);
     spoken[first..first + n].fill(head[choice]);
     spoken
+}
+
+/// The memory with this vote reading and latest vote of a sender, each as the memory
+/// counts it: 0 is none, else one more. Unless the sender is the head itself, the
+/// reading has to be voted for the candidate (document 02, No. 5).
+pub fn with_vote(head: &Head, sender: usize, reading: u32, named: u32) -> Head {
+    let mut voted = *head;
+    voted[32 + sender] = reading;
+    voted[80 + sender] = named;
+    voted
 }
 
 /// Numbers at, below and above the ends of what may stand at an index of the

@@ -3,6 +3,7 @@
 
 use std::collections::{BTreeMap, BTreeSet};
 
+use crate::candidates::Watch;
 use crate::claim;
 use crate::fast;
 use crate::generate::{generate, Aim, Generated};
@@ -44,6 +45,12 @@ pub const BRANCHES: &[&str] = &[
     "5 no effect, same serial",
     "5 no effect, lower serial",
     "5 no effect, serial 0 after a higher one",
+    "5 adopts, readings of the former candidate dropped",
+    "5 adopts, its sender's former reading replaced",
+    "5 names another candidate, its reading left out",
+    "5 names another candidate, with none",
+    "5 names the candidate after its sender's reading was dropped",
+    "5 names the candidate after its sender named another",
     "5 closes the vote early",
     "5 closes both phases early",
     "vote carries a reading",
@@ -61,6 +68,9 @@ pub const BRANCHES: &[&str] = &[
     "7 no vote reading",
     "7 median of an even count",
     "7 median of an odd count above 1",
+    "7 readings left out",
+    "7 readings left out, the median another with them",
+    "7 no vote reading but those left out",
     "7 after an early vote close",
     "7 spent",
     "7 spent, the turn already taken",
@@ -187,6 +197,9 @@ pub const BRANCHES: &[&str] = &[
     "kept, a spent 6 being no close (premise 6)",
     "kept, a spent 9 being no close (premise 7)",
     "kept, a spent 9 being no close (premise 8)",
+    "kept, a correct head dropped readings",
+    "kept, a correct adjuster left out a faulty head's reading",
+    "kept, the adjustment another with the readings left out",
     "kept with drift 4095",
     "kept with drift 0",
     "kept with tightness 65535",
@@ -283,8 +296,12 @@ impl Cover {
         }
         self.agreed += 1;
         let mut seen = Vec::new();
-        let run = run_observed(&words, None, &mut |taken| branches(taken, &mut seen));
-        for name in seen {
+        let mut watch = Watch::default();
+        let run = run_observed(&words, None, &mut |taken| {
+            branches(taken, &mut seen);
+            watch.entry(taken);
+        });
+        for &name in seen.iter().chain(&watch.ways) {
             self.count(name);
         }
         match (&run, &plain) {
@@ -334,7 +351,7 @@ impl Cover {
             self.count(name);
         }
         if premise == 0 {
-            for name in kept_ways(&run) {
+            for name in kept_ways(&run).into_iter().chain(watch.kept_ways(&run)) {
                 self.count(name);
             }
             let settings = run.settings;

@@ -72,7 +72,7 @@ struct Head {
     /// Senders whose start reading is held, and the readings.
     starts: u16,
     start: [u32; MAX_HEADS],
-    /// By sender, the vote reading or `NO_READING`.
+    /// By sender, what its latest vote carries: a reading or `NO_READING`.
     vote: [u32; MAX_HEADS],
     adjustment: u32,
     votes: Phase,
@@ -128,8 +128,18 @@ impl Head {
         }
     }
 
+    /// The median of what the latest votes that name the candidate carry. In a run
+    /// these are the vote readings: a head's candidate only rises in rank and it
+    /// adopts any higher one, so a vote that did not name its candidate when it was
+    /// taken never names a later one.
     fn vote_median(&self) -> Option<u32> {
+        let named = self.votes.named[self.votes.choice as usize];
         let mut held = self.vote;
+        for (from, vote) in held.iter_mut().enumerate() {
+            if named >> from & 1 == 0 {
+                *vote = NO_READING;
+            }
+        }
         held.sort_unstable();
         // `NO_READING` is the largest, so the readings held come first.
         let count = held.partition_point(|&r| r != NO_READING);

@@ -6,6 +6,7 @@
 pub mod ask;
 #[cfg(feature = "board")]
 pub mod board;
+pub mod candidates;
 pub mod claim;
 pub mod counter;
 pub mod cover;

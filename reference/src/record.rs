@@ -169,7 +169,21 @@ impl Record {
         if (self.vote_early && !self.vote_close) || (self.adjust_early && !self.adjust_close) {
             return false;
         }
-        true
+        !self.keeps_other_candidates()
+    }
+
+    /// Whether the sender's latest vote names the candidate; never without one.
+    pub fn names_candidate(&self, sender: usize) -> bool {
+        self.candidate.is_some() && self.kept[sender].latest_vote == self.candidate
+    }
+
+    /// Document 02, No. 5: "A record that keeps another sender's vote reading without
+    /// that sender's latest vote naming the candidate is outside its ranges." The
+    /// head's own vote reading is not asked.
+    pub fn keeps_other_candidates(&self) -> bool {
+        let mut others = (0..MAX_HEADS).filter(|&sender| sender != self.own as usize);
+        others
+            .any(|sender| self.kept[sender].vote_reading.is_some() && !self.names_candidate(sender))
     }
 }
 

@@ -146,6 +146,9 @@ enum Mood {
     /// As tame, but some lines from or to them carry no votes, or no adjusts: heads
     /// close early where they hear all, and others by entry.
     Cut,
+    /// As tame, but some stop after a vote: what it carries reaches the others, who
+    /// may go on to another candidate.
+    Brief,
 }
 
 #[derive(Clone, Copy)]
@@ -178,6 +181,12 @@ struct Round<'a> {
     cuts: Vec<[u32; 3]>,
     /// The head to which votes come late.
     slow: Option<u32>,
+    /// Heads that mean to lead: votes come to them after their own turn.
+    leaders: Vec<u32>,
+    /// In hundredths, how surely a turn or a vote waits for those of lower rank.
+    rising: u64,
+    /// By head, the votes that it sends before it stops.
+    votes_left: Vec<Option<u32>>,
     /// Whether a head takes its adjust turn as soon as it has closed its votes early.
     hasty: bool,
     /// Whether, after the first close by entry, what others hear late closes them early.
@@ -308,6 +317,31 @@ fn faulty_cuts(random: &mut Random, settings: &Settings, breaks: u32) -> Vec<[u3
     cuts
 }
 
+/// The heads that mean to lead: two or more, so that others change candidate when they
+/// have taken votes; mostly correct ones where faulty heads are brief, and in half of
+/// the other rounds none.
+fn draw_leaders(random: &mut Random, settings: &Settings, mood: Mood) -> Vec<u32> {
+    if mood != Mood::Brief && random.chance(1, 2) {
+        return Vec::new();
+    }
+    let mut heads: Vec<u32> = (0..settings.n).collect();
+    if mood == Mood::Brief && random.chance(3, 4) {
+        heads = settings.correct_heads();
+    }
+    random.shuffle(&mut heads);
+    heads.truncate(random.pick(&[2, 2, 3, 4]));
+    heads
+}
+
+/// The votes that each head sends before it stops: one or two where faulty heads are
+/// brief.
+fn draw_votes_left(random: &mut Random, settings: &Settings, mood: Mood) -> Vec<Option<u32>> {
+    let mut stops = |head| mood == Mood::Brief && !settings.is_correct(head) && random.chance(3, 4);
+    let brief: Vec<bool> = (0..settings.n).map(&mut stops).collect();
+    let votes = |stops: bool| stops.then(|| random.pick(&[1, 1, 1, 2]));
+    brief.into_iter().map(votes).collect()
+}
+
 fn clock(random: &mut Random, settings: &Settings, correct: bool, late: bool) -> Clock {
     let drift = i64::from(settings.drift);
     let style = if correct {
@@ -370,11 +404,17 @@ pub fn round(random: &mut Random, breaks: u32) -> Option<(Settings, Vec<Entry>)>
             turn: random.chance(likely, likely + 1),
         })
         .collect();
-    let mood = match random.below(8) {
+    let mood = match random.below(11) {
         0..=3 => Mood::Wild,
         4 => Mood::Tame,
-        _ => Mood::Cut,
+        5..=7 => Mood::Cut,
+        _ => Mood::Brief,
     };
+    let leaders = draw_leaders(random, &settings, mood);
+    for &leader in &leaders {
+        wishes[leader as usize] = EAGER;
+    }
+    let mut votes_left = draw_votes_left(random, &settings, mood);
     let mut cuts = Vec::new();
     if mood == Mood::Cut {
         cuts = faulty_cuts(random, &settings, breaks);
@@ -403,6 +443,7 @@ pub fn round(random: &mut Random, breaks: u32) -> Option<(Settings, Vec<Entry>)>
         left[0] = u32::MAX;
         loss[0] = vec![0; n as usize];
         loss.iter_mut().for_each(|from| from[0] = 0);
+        votes_left[0] = None;
         wishes[0] = EAGER;
     }
     let mut variant = random.below(3);
@@ -468,6 +509,9 @@ pub fn round(random: &mut Random, breaks: u32) -> Option<(Settings, Vec<Entry>)>
         mood,
         cuts,
         slow,
+        leaders,
+        rising: random.pick(&[0, 50, 95, 99, 99]),
+        votes_left,
         hasty,
         late_words: random.chance(1, 3),
         spends,
@@ -758,7 +802,50 @@ impl Round<'_> {
         }
         if let Some(frame) = sent {
             self.send(head, frame);
+            self.stop_after(head, frame);
         }
+    }
+
+    /// A brief head stops with the last of its votes, or a few entries later.
+    fn stop_after(&mut self, head: u32, frame: Frame) {
+        let Frame::Vote { serial, .. } = frame else {
+            return;
+        };
+        if self.votes_left[head as usize] == Some(serial + 1) {
+            self.left[head as usize] = self.random.pick(&[0, 0, 0, 1, 3]);
+        }
+    }
+
+    /// Whether a head leaves its vote turn, for now, to leaders of lower rank.
+    fn leads_later(&mut self, head: u32) -> bool {
+        let lower = self.leaders.iter().filter(|&&x| x > head);
+        let is_before = |&x: &u32| self.record(x).candidate.is_none() && !self.is_stopped(x);
+        lower.copied().any(|x| is_before(&x)) && self.random.chance(self.rising, 100)
+    }
+
+    /// Whether a vote waits: for the turn of a head that means to lead, or for votes
+    /// to the same head that name a lower rank.
+    fn waits(&mut self, p: Pending) -> bool {
+        if p.action != 5 || self.leaders.is_empty() {
+            return false;
+        }
+        let h = self.record(p.head);
+        let is_leader = self.leaders.contains(&p.head) && !self.is_stopped(p.head);
+        if is_leader && h.candidate.is_none() && !h.vote_close {
+            return self.random.chance(49, 50);
+        }
+        let named = |p: &Pending| {
+            let is_it = |q: &Pending| (q.action, q.sender, q.serial) == (5, p.sender, p.serial);
+            let sent = self.frames.iter().find(|(q, _)| is_it(q));
+            sent.and_then(|(_, frame)| match frame {
+                Frame::Vote { candidate, .. } => Some(*candidate),
+                _ => None,
+            })
+        };
+        let other = |q: &&Pending| q.action == 5 && q.head == p.head;
+        let mut others = self.must.iter().filter(other);
+        let is_behind = others.any(|q| named(q) > named(&p));
+        is_behind && self.random.chance(self.rising, 100)
     }
 
     fn send(&mut self, sender: u32, frame: Frame) {
@@ -864,7 +951,7 @@ impl Round<'_> {
                     _ => tasks.push(Task::Burst(h)),
                 }
             }
-            if wish.turn && self.is_open(4, h) {
+            if wish.turn && self.is_open(4, h) && !self.leads_later(h) {
                 tasks.push(Task::Act(4, h));
             }
             for (place, &action) in self.spends[h as usize].iter().enumerate() {
@@ -967,14 +1054,19 @@ impl Round<'_> {
                 if p.action == 5 && self.slow == Some(p.head) && self.random.chance(9, 10) {
                     return;
                 }
+                if self.waits(p) {
+                    return;
+                }
                 self.must.swap_remove(index);
                 let drops = (self.breaks == 5 && p.action != 8 && self.variant == 0
                     || self.breaks == 7 && p.action == 8 && self.variant == 1)
                     && self.is_correct(p.sender)
                     && self.is_correct(p.head);
+                // A brief head is to have a reading to vote with, and no burst asks for it.
+                let by_burst = self.mood != Mood::Brief || self.is_correct(p.head);
                 let needless = p.action == 2
                     && ((self.start_reached[p.sender as usize] >> p.head) & 1 == 1
-                        || self.wishes[p.sender as usize].confirm);
+                        || (self.wishes[p.sender as usize].confirm && by_burst));
                 if drops && !needless && !self.spent && self.random.chance(1, 4) {
                     self.spent = true;
                     self.held.push(p);

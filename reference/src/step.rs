@@ -1,5 +1,5 @@
 //! "Actions and steps of one head h", and document 02, No. 4, "Closing when all
-//! have spoken".
+//! have spoken", and No. 5, "Readings of another candidate".
 
 use crate::record::{median, Record};
 use crate::words::{has_sender, has_serial, Cause, Reading, TIME_LIMIT};
@@ -140,6 +140,16 @@ pub fn is_closed(h: &Record, action: u32, sender: u32) -> bool {
     }
 }
 
+/// Document 02, No. 5: "only readings voted for the head's present candidate count;
+/// changing candidate drops the others". Latest votes and serials stay.
+fn drop_others(h: &mut Record) {
+    for sender in 0..h.n as usize {
+        if !h.names_candidate(sender) {
+            h.kept[sender].vote_reading = None;
+        }
+    }
+}
+
 /// h takes `candidate` and votes. "A vote carries the candidate and h's own
 /// start reading of it, or the mark "none"; it is also h's own vote reading."
 /// "Serials count a head's votes from 0." It is h's own latest vote.
@@ -147,6 +157,7 @@ fn vote(h: &mut Record, candidate: u32) -> Frame {
     let reading = h.kept[candidate as usize].start_reading;
     let serial = h.votes_sent;
     h.candidate = Some(candidate);
+    drop_others(h);
     h.kept[h.own as usize].vote_reading = reading;
     h.kept[h.own as usize].latest_vote = Some(candidate);
     h.votes_sent += 1;
@@ -232,6 +243,22 @@ fn close_early(h: &mut Record) {
     }
 }
 
+/// "Otherwise the carried reading (or none) becomes the sender's vote reading; with
+/// no candidate, or a carried one of higher rank (lower number), h adopts it and
+/// votes." Document 02, No. 5: "a vote taken that names another candidate leaves its
+/// sender with none".
+fn take_vote(h: &mut Record, input: &Input) -> Option<Frame> {
+    let sender = input.sender as usize;
+    h.kept[sender].vote_serial = Some(input.serial);
+    h.kept[sender].latest_vote = Some(input.carried_head);
+    let adopts = outranks(input.carried_head, h.candidate);
+    let sent = adopts.then(|| vote(h, input.carried_head));
+    // Asked of the candidate that h has now, adopted or not.
+    let counts = h.names_candidate(sender) && !input.none;
+    h.kept[sender].vote_reading = counts.then_some(Reading(input.carried_reading));
+    sent
+}
+
 /// What an action does that is neither refused nor without effect, on all but the
 /// last reading.
 fn effect(h: &mut Record, input: &Input) -> Option<Frame> {
@@ -258,22 +285,8 @@ fn effect(h: &mut Record, input: &Input) -> Option<Frame> {
             h.vote_turn = true;
             own_vote(h)
         }
-        // "5 vote delivered. [...] Otherwise the carried reading (or none) becomes
-        // the sender's vote reading; with no candidate, or a carried one of higher
-        // rank (lower number), h adopts it and votes."
-        5 => {
-            h.kept[sender].vote_serial = Some(input.serial);
-            h.kept[sender].latest_vote = Some(input.carried_head);
-            h.kept[sender].vote_reading = if input.none {
-                None
-            } else {
-                Some(Reading(input.carried_reading))
-            };
-            if outranks(input.carried_head, h.candidate) {
-                return Some(vote(h, input.carried_head));
-            }
-            None
-        }
+        // "5 vote delivered."
+        5 => take_vote(h, input),
         // "6 vote close."
         6 => {
             h.vote_close = true;

@@ -1,7 +1,7 @@
 // A head's marks in one number, as its row has them, and when they close an action; when an action is spent.
 use protocol::mark;
 ghost use mathlib.Core.Path.{_≡_};
-ghost use mathlib.Core.Bool.{cond};
+ghost use mathlib.Core.Bool.{cond, not, _&&_};
 ghost use Prim.Native.Nat.{_+_, _%_, _^_, _<_};
 ghost use Rattle.protocol.specs.Step.{hasMark, closedBy, isSpent};
 
@@ -22,6 +22,13 @@ pub fn with_mark(marks: u32, weight: u32) -> u32
     } else {
         std::num::wrapping_add_u32(marks, weight)
     }
+}
+
+// "with the vote open, no candidate"
+pub fn is_undecided(marks: u32) -> bool
+    ensures { λ b. ⌜ b ≡ (not (hasMark marks 8) && not (hasMark marks 64)) ⌝ }
+{
+    !has_mark(marks, mark::VOTE_CLOSE) && !has_mark(marks, mark::CANDIDATE)
 }
 
 // Whether an action is closed by the marks.

@@ -15,13 +15,13 @@ use Rattle.protocol.specs.declared.OptNumber.{OptNumber}
 use Rattle.protocol.specs.declared.OptNumber.the-variants.{NoNumber, SomeNumber}
 use Rattle.protocol.specs.declared.Sender.{Sender}
 use Rattle.protocol.specs.declared.HeadRecord.{HeadRecord}
-use Rattle.protocol.specs.Base.{allBelow, table}
+use Rattle.protocol.specs.Base.{_⇒_, table}
 use Rattle.protocol.specs.Words.{isTime, headsFit}
-use Rattle.protocol.specs.Record.{isReading, isNumber, readingOr0, noSender, keptOf, startOf, voteOf, votes, adjusts, markNumber, marksNumber, readingInRange, senderInRange, senderIsNone, phaseInRange, marksInRange, recordInRange}
+use Rattle.protocol.specs.Record.{isReading, isNumber, readingOr0, noSender, keptOf, startOf, voteOf, votes, adjusts, markNumber, marksNumber, readingInRange, senderInRange, senderIsNone, sameNumber, readingCounts, phaseInRange, marksInRange, recordInRange}
+use Rattle.protocol.specs.Step.{withSenders}
 use Rattle.protocol.specs.Row.{numberPlus1, readingPlus1, ownNumbers, startNumber, voteNumber, votedNumber, adjustedNumber, latestNumber, rowLength, rowOf, numberIn, readingIn, senderIn, recordIn, rowFits, rowInRange}
-use Rattle.protocol.proofs.Tests.{cases, and-left, and-right, parts, is-1}
+use Rattle.protocol.proofs.Tests.{cases, and-left, and-right, parts, all-same, is-1}
 use Rattle.protocol.proofs.Tables.{length-table, table-at, is-table}
-use Rattle.protocol.proofs.Effects.{withSenders}
 use Rattle.protocol.proofs.Ranges.{InRange, in-range}
 use Rattle.head_row.proofs.Rows.{start-read, vote-read, voted-read, adjusted-read, latest-read}
 use Rattle.head_open.proofs.Marks.{has-started, has-confirmed, has-vote-turn, has-vote-closed, has-adjust-turn, has-adjust-closed}
@@ -111,10 +111,6 @@ held-but-senders r =
       number-back (r .adjust .choice),
     ) refl
 
-all-below-same : (n : ℕ) (p q : ℕ → Bool) → ((k : ℕ) → k < n → p k ≡ q k) → allBelow n p ≡ allBelow n q
-all-below-same zero p q h = refl
-all-below-same (suc n) p q h = ap₂ _&&_ (h n (omega arith)) (all-below-same n p q (λ k l. h k (omega arith)))
-
 module _ (r : HeadRecord) (long : length (r .senders) ≡ 16) where
   sender-held : (p : ℕ) → p < 16 → senderIn (rowOf r) p ≡ heldOf (keptOf r p)
   sender-held p short =
@@ -132,7 +128,9 @@ module _ (r : HeadRecord) (long : length (r .senders) ≡ 16) where
       ) refl
 
   abbrev keptTest : ℕ → Sender → Bool
-  keptTest p k = cond (ltb p (r .n)) (senderInRange (r .n) k) (senderIsNone k)
+  keptTest p k =
+      cond (ltb p (r .n)) (senderInRange (r .n) k && (eqb p (r .own) || (isReading (k .vote) ⇒ sameNumber (k .candidate) (r .vote .choice))))
+      (senderIsNone k)
 
   test-held : (p : ℕ) (k : Sender) → keptTest p (heldOf k) ≡ keptTest p k
   unfolding senderInRange senderIsNone
@@ -146,13 +144,13 @@ module _ (r : HeadRecord) (long : length (r .senders) ≡ 16) where
 
   range-by-senders : (l : List Sender) → ((p : ℕ) → p < 16 → keptTest p (getD l p noSender) ≡ keptTest p (keptOf r p))
       → recordInRange (withSenders r l) ≡ recordInRange r
-  unfolding recordInRange marksInRange
+  unfolding recordInRange marksInRange readingCounts
   range-by-senders l same =
       ap (λ (kept : Bool).
       headsFit (r .n) (r .f) && (ltb (r .own) (r .n) && (isTime (r .last .0) && (isTime (r .adjustment .0)
       && ((isNumber (r .adjust .choice) || eqb (r .adjustment .0) 0) && (phaseInRange (r .n) (r .vote) && (phaseInRange (r .n) (r .adjust)
       && (marksInRange r && kept))))))))
-      (all-below-same 16 (λ p. keptTest p (getD l p noSender)) (λ p. keptTest p (keptOf r p)) same)
+      (all-same 16 (λ p. keptTest p (getD l p noSender)) (λ p. keptTest p (keptOf r p)) same)
 
   pub range-of-row : rowInRange (rowOf r) ≡ recordInRange r
   unfolding rowInRange

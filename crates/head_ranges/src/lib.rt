@@ -13,7 +13,7 @@ ghost use Rattle.protocol.specs.Words.{isTime, headsFit};
 ghost use Rattle.protocol.specs.Record.{isNumber, markNumber, sentInRange};
 ghost use Rattle.protocol.specs.Step.{hasMark};
 ghost use Rattle.protocol.specs.Row.{numberIn, recordIn, rowFits, rowInRange};
-ghost use Rattle.head_ranges.specs.Parts.{spareFits, marksAllowed, sendersInRange, exceeds, beyond};
+ghost use Rattle.head_ranges.specs.Parts.{spareFits, marksAllowed, sendersInRange, exceeds, countedLimit, greatestVote, beyond};
 
 // 1 if b exceeds a, else 0.
 fn one_if_less(a: u32, b: u32) -> u32
@@ -97,6 +97,34 @@ fn greatest(n: u32, p: u32, x: u32) -> u32
     if p < n { x } else { 0 }
 }
 
+// The greatest vote reading of another sender whose latest vote is as the candidate: where both are none, none counts.
+fn counted_limit(candidate: u32) -> u32
+    ensures { λ m. ⌜ m ≡ countedLimit candidate ⌝ }
+{
+    if candidate == 0 { 0 } else { TIME_LIMIT }
+}
+
+// The greatest that may be kept of sender p as its vote reading. Document 02, No. 5: "A record that keeps another sender's vote
+// reading without that sender's latest vote naming the candidate is outside its ranges". All is read before it is tested, so
+// that the test is no branch.
+fn greatest_vote(row: &Row, p: u32) -> u32
+    requires { ⌜ p < 16 ⌝ }
+    ensures { λ m. ⌜ m ≡ greatestVote (now (row .entry)) p ⌝ }
+{
+    let own = row[at::OWN];
+    let candidate = row[at::CANDIDATE];
+    let latest = row[at::LATEST_VOTES + p as usize];
+    let reading = greatest(row[at::HEADS], p, TIME_LIMIT);
+    let counted = greatest(row[at::HEADS], p, counted_limit(candidate));
+    if p == own {
+        reading
+    } else if latest == candidate {
+        counted
+    } else {
+        0
+    }
+}
+
 // How many of the six numbers kept of sender p are greater than the greatest.
 fn numbers_beyond(row: &Row, p: u32) -> u32
     requires { ⌜ p < 16 ⌝ }
@@ -104,10 +132,11 @@ fn numbers_beyond(row: &Row, p: u32) -> u32
 {
     let i = p as usize;
     let reading = greatest(row[at::HEADS], p, TIME_LIMIT);
+    let vote = greatest_vote(row, p);
     let serial = greatest(row[at::HEADS], p, 16);
     let name = greatest(row[at::HEADS], p, row[at::HEADS]);
     one_if_less(reading, row[at::START_READINGS + i])
-        + one_if_less(reading, row[at::VOTE_READINGS + i])
+        + one_if_less(vote, row[at::VOTE_READINGS + i])
         + (one_if_less(serial, row[at::VOTE_SERIALS + i])
             + one_if_less(serial, row[at::ADJUST_SERIALS + i]))
         + (one_if_less(name, row[at::LATEST_VOTES + i])

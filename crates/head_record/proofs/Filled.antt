@@ -13,7 +13,7 @@ use Rattle.protocol.specs.declared.HeadRecord.{HeadRecord}
 use Rattle.protocol.specs.Record.{noSender}
 use Rattle.protocol.specs.Row.{rowOf}
 use Rattle.protocol.proofs.Tables.{fill-next}
-use Rattle.protocol.proofs.Effects.{withSenders}
+use Rattle.protocol.specs.Step.{withSenders}
 use Rattle.head_row.proofs.Rows.{sender-written}
 use Rattle.head_record.specs.Filling.{bare, withNumbers, Completes}
 

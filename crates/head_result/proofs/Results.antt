@@ -18,8 +18,9 @@ use Rattle.protocol.specs.Step.{hasMark}
 use Rattle.protocol.specs.Row.{numberPlus1, readingPlus1, rowOf}
 use Rattle.protocol.specs.Board.{resultNumbers}
 use Rattle.protocol.proofs.Tests.{and-false}
+use Rattle.protocol.proofs.Effects.{no-number}
 use Rattle.protocol.proofs.Ranges.{InRange, in-range, SentInRange}
-use Rattle.head_row.proofs.Rows.{start-read}
+use Rattle.head_row.proofs.Rows.{start-read, is-none}
 use Rattle.head_open.proofs.Marks.{has-adjust-closed}
 use Rattle.head_result.specs.Result.{IsResult}
 
@@ -32,10 +33,6 @@ by-outcome r o e = rw e refl
 outcome-is : (r : HeadRecord) (c t : Bool) → r .adjust .closed ≡ c → (isReading (chosenStart r) && isNumber (r .adjust .choice)) ≡ t → outcome r ≡ cond c (cond t 2 1) 0
 unfolding outcome
 outcome-is r c t p q = ap₂ (λ x y. cond x (cond y 2 1) 0) p q
-
-none-is-0 : (m : OptNumber) → numberPlus1 m ≡ 0 → m ≡ NoNumber
-none-is-0 NoNumber e = refl
-none-is-0 (SomeNumber k) e = absurd (omega arith)
 
 some-is-more : (m : OptNumber) → numberPlus1 m ≢ 0 → m ≡ SomeNumber (numberPlus1 m - 1)
 some-is-more NoNumber e = absurd (e refl)
@@ -110,10 +107,10 @@ module _ (w : List ℕ) (b : Bool) (test : b ≡ hasMark (getD w 1 0) 32) where
 
     pub no-candidate : getD w 2 0 ≡ 0 → IsResult w (1 ∷ 0 ∷ 0 ∷ 0 ∷ 0 ∷ [])
     unfolding chosenStart
-    no-candidate z = λ r is range long. not-adopted r is (rw (none-is-0 (r .vote .choice) (sym (candidate-is w r is) ∙ z)) refl)
+    no-candidate z = λ r is range long. not-adopted r is (rw (no-number (r .vote .choice) (is-none (r .vote .choice) (candidate-is w r is) z)) refl)
 
     pub no-adjuster : getD w 4 0 ≡ 0 → IsResult w (1 ∷ 0 ∷ 0 ∷ 0 ∷ 0 ∷ [])
-    no-adjuster z = λ r is range long. not-adopted r is (ap (λ (m : OptNumber). isReading (chosenStart r) && isNumber m) (none-is-0 (r .adjust .choice) (sym (adjuster-is w r is) ∙ z)) ∙ and-false (isReading (chosenStart r)) false refl)
+    no-adjuster z = λ r is range long. not-adopted r is (and-false (isReading (chosenStart r)) _ (is-none (r .adjust .choice) (adjuster-is w r is) z))
 
     pub no-start : getD w 2 0 ≢ 0 → getD w (16 + (getD w 2 0 - 1) % 16) 0 ≡ 0 → IsResult w (1 ∷ 0 ∷ 0 ∷ 0 ∷ 0 ∷ [])
     no-start c z =

@@ -1,11 +1,10 @@
 -- A record in its ranges fits a step, and so does what the step makes of it on its way.
--- Main results: `fits`; `last-fits`, `vote-phase-fits`, `adjust-phase-fits`, `sender-fits`.
+-- Main results: `fits`, `fits-heads`; `last-fits`, `vote-phase-fits`, `adjust-phase-fits`, `sender-fits`.
 use mathlib.Core.Path.{_≡_, sym, _∙_, subst}
-use mathlib.Core.List.{List, [], _∷_}
-use Prim.Native.Nat.{ℕ, zero, suc, _^_, _≤_, _<_}
+use Prim.Native.Nat.{ℕ, _^_, _≤_, _<_}
 use native.Mathlib.Omega.{arith}
 use lib.Dec.{ltb, lit<}
-use lib.ListN.{length, getD, set, length-set, List·getD-eq-default}
+use lib.ListN.{length, length-set, List·getD-eq-default}
 use borrow.Author.Tests.{ltb-true, ltb-false}
 use Rattle.protocol.specs.declared.Reading.{Reading}
 use Rattle.protocol.specs.declared.OptNumber.{OptNumber}
@@ -13,11 +12,12 @@ use Rattle.protocol.specs.declared.OptNumber.the-variants.{NoNumber, SomeNumber
 use Rattle.protocol.specs.declared.Sender.{Sender}
 use Rattle.protocol.specs.declared.Phase.{Phase}
 use Rattle.protocol.specs.declared.HeadRecord.{HeadRecord}
-use Rattle.protocol.specs.Record.{Kind, votes, adjusts, phaseOf, readingOr0, noSender, keptOf, voteOf}
+use Rattle.protocol.specs.Record.{votes, adjusts, phaseOf, readingOr0, noSender, keptOf, voteOf}
 use Rattle.protocol.specs.Step.{withLast, withVote, withAdjust, withSender}
 use Rattle.protocol.proofs.Tests.{cases}
-use Rattle.protocol.proofs.Ranges.{SentInRange, InRange}
-use Rattle.head_row.specs.Promises.{Fits}
+use Rattle.protocol.proofs.Effects.{set-holds}
+use Rattle.protocol.proofs.Ranges.{for-both, SentInRange, InRange}
+use Rattle.head_row.specs.Promises.{Fits, HasHeads}
 
 -- IN RANGE, SO IT FITS
 
@@ -48,20 +48,10 @@ module _ {r : HeadRecord} (h : InRange r) (long : length (r .senders) ≡ 16) wh
         readings = vote-below;
       }
 
+pub fits-heads : {r : HeadRecord} → Fits r → HasHeads r
+fits-heads fit = record { some = fit .some; heads = fit .heads; senders = fit .senders }
+
 -- ON A STEP'S WAY
-
-for-both : (P : Kind → Type 0) → P votes → P adjusts → (k : Kind) → P k
-for-both P v a votes = v
-for-both P v a adjusts = a
-
--- what holds at every index, and of the element written, holds at every index after the write
-set-holds : (P : Sender → Type 0) (l : List Sender) (p : ℕ) (s : Sender) → P s → ((q : ℕ) → P (getD l q noSender))
-    → (q : ℕ) → P (getD (set l p s) q noSender)
-set-holds P [] p s h k q = k q
-set-holds P (x ∷ l) zero s h k zero = h
-set-holds P (x ∷ l) zero s h k (suc q) = k (suc q)
-set-holds P (x ∷ l) (suc p) s h k zero = k zero
-set-holds P (x ∷ l) (suc p) s h k (suc q) = set-holds P l p s h (λ j. k (suc j)) q
 
 module _ {r : HeadRecord} (h : Fits r) where
   pub last-fits : (x : Reading) → x .0 < 2 ^ 28 → Fits (withLast r x)
@@ -93,5 +83,5 @@ module _ {r : HeadRecord} (h : Fits r) where
         last = h .last;
         sent = for-both _ (h .sent votes) (h .sent adjusts);
         senders = length-set (r .senders) p k ∙ h .senders;
-        readings = set-holds (λ (s : Sender). readingOr0 (s .vote) < 2 ^ 28) (r .senders) p k b (h .readings);
+        readings = set-holds (λ _ s. readingOr0 (s .vote) < 2 ^ 28) (r .senders) p k b (h .readings);
       }

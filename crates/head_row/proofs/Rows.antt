@@ -1,12 +1,12 @@
 -- A record's row, number by number: what is read there, and which record's row it is after a write.
 -- A row is the head's own sixteen numbers and six fields of sixteen, one number a sender. One law reads a sender's number and
 -- one writes it, whichever the field; each field is an instance.
--- Main results: `row-length`; `start-read`, `vote-read`, `voted-read`, `adjusted-read`, `latest-read`; `start-written`,
+-- Main results: `row-length`; `start-read`, `vote-read`, `voted-read`, `adjusted-read`, `latest-read`; `start-written`, `vote-written`,
 -- `own-vote-written`, `own-adjust-written`, `taken-vote-written`, `taken-adjust-written`, `sender-written`; `own-number`,
--- `last-written`, `marks-written`, `vote-phase-written`, `adjust-phase-written`, `early-read`, `early-written`; `other-phase`,
--- `early-place`.
+-- `last-written`, `marks-written`, `vote-phase-written`, `adjust-phase-written`, `early-read`, `early-written`;
+-- `reading-left`; `is-none`, `is-some`, `same-name`; `other-phase`, `early-place`.
 use mathlib.Core.Path.{_≡_, refl, sym, _∙_, ap, ap₂}
-use mathlib.Core.Bool.{true}
+use mathlib.Core.Bool.{Bool, true, false, cond}
 use mathlib.Core.List.{List, [], _∷_, _++_, map}
 use mathlib.Core.Logic.{_≢_}
 use Prim.Native.Nat.{ℕ, zero, suc, _+_, _*_, _<_}
@@ -15,15 +15,18 @@ use native.Mathlib.Omega.{arith}
 use lib.Dec.{eqb, lit<}
 use lib.ListN.{length, getD, set, drop, length-append, length-map, length-set, List·getD-append, List·getD-map}
 use lib.Seq.{getD-append-add, set-append-left, getD-set-same, map-set-same, set-set}
+use borrow.Author.Tests.{eq-eqb, ne-eqb, eqb-true, eqb-false}
 use Rattle.protocol.specs.declared.Reading.{Reading}
 use Rattle.protocol.specs.declared.OptReading.{OptReading}
+use Rattle.protocol.specs.declared.OptReading.the-variants.{NoReading}
+use Rattle.protocol.specs.declared.OptNumber.{OptNumber}
+use Rattle.protocol.specs.declared.OptNumber.the-variants.{NoNumber, SomeNumber}
 use Rattle.protocol.specs.declared.Sender.{Sender}
 use Rattle.protocol.specs.declared.HeadRecord.{HeadRecord}
-use Rattle.protocol.specs.Record.{noSender, keptOf, startOf, voteOf, Kind, votes, adjusts, phaseOf, latestOf, marksNumber}
-use Rattle.protocol.specs.Step.{withStart, withVoteReading, withVoted, withAdjusted, withCandidate, withAdjuster, choose, earlyIf, withLast, withVote, withAdjust, withPhase, withSender, keepVote, keepAdjust}
+use Rattle.protocol.specs.Record.{isNumber, noSender, keptOf, startOf, voteOf, Kind, votes, adjusts, phaseOf, latestOf, sameNumber, marksNumber}
+use Rattle.protocol.specs.Step.{withStart, withVoteReading, withVoted, withAdjusted, withCandidate, withAdjuster, choose, earlyIf, withLast, withVote, withAdjust, withPhase, withSender, withSenders, keepVote, keepAdjust}
 use Rattle.protocol.specs.Row.{numberPlus1, readingPlus1, ownNumbers, startNumber, voteNumber, votedNumber, adjustedNumber, latestNumber, rowLength, rowOf, phaseKind}
-use Rattle.protocol.proofs.Tests.{is-1}
-use Rattle.protocol.proofs.Effects.{withSenders}
+use Rattle.protocol.proofs.Tests.{is-1, cases}
 use Rattle.protocol.proofs.Ranges.{Every}
 use Rattle.head_row.specs.Promises.{latestAt, earlyAt}
 
@@ -155,7 +158,7 @@ module _ (r : HeadRecord) (long : length (r .senders) ≡ 16) where
     pub start-written : (x : OptReading) → set (rowOf r) (16 + p) (readingPlus1 x) ≡ rowOf (withSender r p (withStart (keptOf r p) x))
     start-written x = number-written 0 (readingPlus1 x) (withStart (keptOf r p) x) (omega arith) refl
 
-    vote-written : (x : OptReading) → set (rowOf r) (32 + p) (readingPlus1 x) ≡ rowOf (withSender r p (withVoteReading (keptOf r p) x))
+    pub vote-written : (x : OptReading) → set (rowOf r) (32 + p) (readingPlus1 x) ≡ rowOf (withSender r p (withVoteReading (keptOf r p) x))
     vote-written x = number-written 1 (readingPlus1 x) (withVoteReading (keptOf r p) x) (omega arith) refl
 
     adjusted-written : (j : ℕ) → set (rowOf r) (64 + p) (j + 1) ≡ rowOf (withSender r p (withAdjusted (keptOf r p) j))
@@ -255,6 +258,29 @@ module _ (r : HeadRecord) where
   unfolding rowOf
   early-written votes = refl
   early-written adjusts = refl
+
+-- A READING that is kept or dropped
+
+pub reading-left : (b : Bool) (x : OptReading) → cond b (readingPlus1 x) 0 ≡ readingPlus1 (cond b x NoReading)
+reading-left true x = refl
+reading-left false x = refl
+
+-- A CHOICE, of which the row has k
+
+pub is-none : (m : OptNumber) {k : ℕ} → k ≡ numberPlus1 m → k ≡ 0 → isNumber m ≡ false
+is-none NoNumber k-is e = refl
+is-none (SomeNumber v) k-is e = absurd (omega arith)
+
+pub is-some : (m : OptNumber) {k : ℕ} → k ≡ numberPlus1 m → k ≢ 0 → isNumber m ≡ true
+is-some NoNumber k-is e = absurd (e k-is)
+is-some (SomeNumber v) k-is e = refl
+
+-- it is the number v
+pub same-name : (m : OptNumber) (v : ℕ) → eqb (numberPlus1 m) (v + 1) ≡ sameNumber m (SomeNumber v)
+same-name NoNumber v = ne-eqb 0 (v + 1) (λ e. absurd (omega arith))
+same-name (SomeNumber c) v =
+    cases (eqb c v) (λ t. let e = eqb-true c v t in eq-eqb (c + 1) (v + 1) (omega arith) ∙ sym t)
+    (λ t. let d = eqb-false c v t in ne-eqb (c + 1) (v + 1) (λ e. d (omega arith)) ∙ sym t)
 
 -- A PHASE BY ITS NUMBER
 

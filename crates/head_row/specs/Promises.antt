@@ -23,9 +23,13 @@ pub record Fits (r : HeadRecord) : Type 0 where
 abbrev pub Reads : {A : Type 0} → (HeadRecord → A) → List ℕ → A → Type 0
 Reads f row x = (r : HeadRecord) → row ≡ rowOf r → Fits r → x ≡ f r
 
+-- the row and the frame are those of an act's result
+abbrev pub Gives : Stepped → List ℕ → Sent → Type 0
+Gives t row x = (row ≡ rowOf (t .after)) × (x ≡ sentOf (t .frame))
+
 -- the row becomes that of the record after the act, and x is the frame that the act sends
 abbrev pub Acts : (HeadRecord → Stepped) → List ℕ → List ℕ → Sent → Type 0
-Acts act before after x = (r : HeadRecord) → before ≡ rowOf r → Fits r → (after ≡ rowOf (act r .after)) × (x ≡ sentOf (act r .frame))
+Acts act before after x = (r : HeadRecord) → before ≡ rowOf r → Fits r → Gives (act r) after x
 
 -- as much of a record's ranges as the test at a step's end needs; what comes before the test keeps it
 pub record HasHeads (r : HeadRecord) : Type 0 where

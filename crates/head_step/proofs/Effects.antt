@@ -14,7 +14,7 @@ use lib.ListN.{getD, set}
 use borrow.Author.Tests.{eq-eqb, ne-eqb, lt-ltb, ltb-true, ltb-false, le-ltb}
 use Rattle.protocol.specs.declared.Reading.{Reading}
 use Rattle.protocol.specs.declared.OptReading.{OptReading}
-use Rattle.protocol.specs.declared.OptReading.the-variants.{SomeReading}
+use Rattle.protocol.specs.declared.OptReading.the-variants.{NoReading, SomeReading}
 use Rattle.protocol.specs.declared.OptNumber.{OptNumber}
 use Rattle.protocol.specs.declared.OptNumber.the-variants.{NoNumber, SomeNumber}
 use Rattle.protocol.specs.declared.Phase.{Phase}
@@ -25,20 +25,21 @@ use Rattle.protocol.specs.declared.Frame.the-variants.{NoFrame, Start}
 use Rattle.protocol.specs.declared.Action.{Action}
 use Rattle.protocol.specs.declared.Action.the-variants.{Look, StartSent, StartDelivered, StartConfirmed, VoteTurn, VoteDelivered, VoteClose}
 use Rattle.protocol.specs.declared.Action.the-variants.{AdjustTurn, AdjustDelivered, AdjustClose}
-use Rattle.protocol.specs.Record.{Kind, votes, adjusts, phaseOf, isNumber, reading, readingOr0, keptOf, marksNumber}
-use Rattle.protocol.specs.Step.{takeTurn, withStart, withSender, keepVote, keepAdjust, silent, vote, adjust, mayLead, lead, propose}
-use Rattle.protocol.specs.Step.{isAbove, isPassedOver, outranks, delivered, effect, hasMark, isTested, act, takenAs}
+use Rattle.protocol.specs.Record.{Kind, votes, adjusts, phaseOf, isNumber, reading, readingOr0, keptOf, sameNumber, marksNumber}
+use Rattle.protocol.specs.Step.{takeTurn, withStart, withSender, keepVote, keepAdjust, keptFor, silent, vote, adjust, mayLead, lead, propose}
+use Rattle.protocol.specs.Step.{isAbove, isPassedOver, outranks, candidateAfter, delivered, effect, hasMark, isTested, act, takenAs}
 use Rattle.protocol.specs.Row.{numberPlus1, readingPlus1, ownNumbers, rowOf, sentOf}
-use Rattle.protocol.proofs.Tests.{absurd-bool, cases, cond-elim, not-true, and-left, and-right}
+use Rattle.protocol.proofs.Tests.{absurd-bool, eqb-same, cases, cond-elim, not-true, and-left, and-right}
 use Rattle.protocol.proofs.Effects.{no-number}
-use Rattle.head_row.specs.Promises.{Fits, Acts, Becomes, earlyAt}
-use Rattle.head_row.proofs.Rows.{own-number, voted-read, adjusted-read, start-written, taken-vote-written, taken-adjust-written, marks-written, early-read}
-use Rattle.head_row.proofs.Fitting.{vote-phase-fits, adjust-phase-fits, sender-fits}
+use Rattle.head_row.specs.Promises.{Fits, Gives, Acts, Becomes, earlyAt}
+use Rattle.head_row.proofs.Rows.{own-number, voted-read, adjusted-read, start-written, taken-vote-written, taken-adjust-written, marks-written, early-read, reading-left, same-name}
+use Rattle.head_row.proofs.Fitting.{fits-heads, vote-phase-fits, adjust-phase-fits, sender-fits}
 use Rattle.head_open.proofs.Marks.{withMark, has-vote-closed, has-adjust-closed, has-candidate}
 use Rattle.head_open.proofs.Marks.{with-started, with-confirmed, with-vote-turn, with-vote-closed, with-adjust-turn, with-adjust-closed}
-use Rattle.head_step.specs.Parts.{closes, takeVote, takeAdjust}
-use Rattle.head_step.proofs.Sends.{Gives}
-use Rattle.head_step.proofs.Closing.{idle, fits-heads, tested-gives, untested-gives, idle-gives}
+use Rattle.head_early.specs.Parts.{closes}
+use Rattle.head_early.proofs.Closing.{idle}
+use Rattle.head_step.specs.Parts.{takeVote, takeAdjust}
+use Rattle.head_step.proofs.Tested.{tested-gives, untested-gives, idle-gives}
 
 -- A SPENT ACTION
 
@@ -232,29 +233,53 @@ module _ (choice : OptNumber) (c : ℕ) (small : c < 16) {o : Bool} {held : ℕ}
 
 -- A VOTE THAT IS TAKEN
 
-module _ (row : List ℕ) (p serial c x q w n : ℕ) (q-is : q ≡ p % 16) (w-is : w ≡ (serial + 1) % 2 ^ 32) (n-is : n ≡ (c + 1) % 2 ^ 32) where
+-- o and n are what the code has of the rank and the number of c: the head then has the candidate c
+then-candidate : (c : ℕ) (choice : OptNumber) {o : Bool} {n : ℕ} → o ≡ outranks c choice → n ≡ c + 1
+    → (o || eqb n (numberPlus1 choice)) ≡ sameNumber (SomeNumber c) (candidateAfter c choice)
+then-candidate c NoNumber o-is n-is = rw (o-is, eqb-same c) refl
+then-candidate c (SomeNumber v) o-is n-is =
+    rw (o-is, n-is) (cases (ltb c v) (λ t. rw (t, eqb-same c) refl) (λ t. rw t (same-name (SomeNumber c) v)))
+
+module _ (row : List ℕ) (p serial c x q n z w : ℕ) (o k : Bool) (q-is : q ≡ p % 16) (n-is : n ≡ (c + 1) % 2 ^ 32)
+    (o-is : o ≡ (eqb (getD row 2 0) 0 || ltb ((c + 1) % 2 ^ 32) (getD row 2 0))) (k-is : k ≡ (o || eqb n (getD row 2 0))) (z-is : z ≡ cond k x 0) (w-is : w ≡ (serial + 1) % 2 ^ 32) where
   abbrev voteRow : List ℕ
-  voteRow = set (set (set row (32 + q) x) (48 + q) w) (80 + q) n
+  voteRow = set (set (set row (32 + q) z) (48 + q) w) (80 + q) n
 
   module _ (lp : p < 16) (ls : serial < 16) (lc : c < 16) (y : OptReading) (x-is : x ≡ readingPlus1 y) (ly : readingOr0 y < 2 ^ 28)
       (r : HeadRecord) (is : row ≡ rowOf r) (fit : Fits r) where
     abbrev voteTaken : HeadRecord
-    voteTaken = withSender r p (keepVote (keptOf r p) serial c y)
+    voteTaken = withSender r p (keptFor (candidateAfter c (r .vote .choice)) (keepVote (keptOf r p) serial c y))
+
+    held-is : getD row 2 0 ≡ numberPlus1 (r .vote .choice)
+    held-is = own-number r is 2 (lit< tt)
+
+    name : n ≡ c + 1
+    name = omega arith
+
+    abbrev counts : Bool
+    counts = sameNumber (SomeNumber c) (candidateAfter c (r .vote .choice))
+
+    reading-is : z ≡ readingPlus1 (cond counts y NoReading)
+    reading-is =
+        z-is ∙ ap₂ (λ (b : Bool) (v : ℕ). cond b v 0) (k-is ∙ ap (λ (v : ℕ). o || eqb n v) held-is ∙ then-candidate c (r .vote .choice) rank name) x-is ∙ reading-left counts y
+      where
+        rank : o ≡ outranks c (r .vote .choice)
+        rank = higher (r .vote .choice) c lc o-is held-is voteTaken (vote c) row (sentOf NoFrame)
 
     vote-row-is : voteRow ≡ rowOf voteTaken
     vote-row-is =
         let voter : q ≡ p = omega arith in
         let new : w ≡ serial + 1 = omega arith in
-        let name : n ≡ c + 1 = omega arith in
-        rw (is, voter, x-is, new, name) (taken-vote-written r (fit .senders) p lp y serial c)
+        rw (is, voter, reading-is, new, name) (taken-vote-written r (fit .senders) p lp (cond counts y NoReading) serial c)
 
-    module _ (o : Bool) (o-is : o ≡ (eqb (getD voteRow 2 0) 0 || ltb ((c + 1) % 2 ^ 32) (getD voteRow 2 0))) (s : Sent) where
+    module _ (s : Sent) where
       pub vote-adopted : (row' : List ℕ) → o ≡ true → (c < 16 → Acts (vote c) voteRow row' s) → Gives (takeVote p serial c y r) row' s
       vote-adopted row' t voted =
-          adopts (r .vote .choice) c lc o-is (own-number voteTaken vote-row-is 2 (lit< tt)) voteTaken (vote c) row' s t (voted lc voteTaken vote-row-is (sender-fits fit p _ ly))
+          adopts (r .vote .choice) c lc o-is held-is voteTaken (vote c) row' s t
+          (voted lc voteTaken vote-row-is (sender-fits fit p _ (cond-elim (λ (v : OptReading). readingOr0 v < 2 ^ 28) counts (λ _. ly) (λ _. omega arith))))
 
       pub vote-kept : o ≡ false → s ≡ sentOf NoFrame → Gives (takeVote p serial c y r) voteRow s
-      vote-kept t none = keeps (r .vote .choice) c lc o-is (own-number voteTaken vote-row-is 2 (lit< tt)) voteTaken (vote c) voteRow s t vote-row-is none
+      vote-kept t none = keeps (r .vote .choice) c lc o-is held-is voteTaken (vote c) voteRow s t vote-row-is none
 
 -- A DELIVERED VOTE
 module _ (row : List ℕ) (p serial c x q : ℕ) (b h : Bool) (q-is : q ≡ p % 16) (h-is : h ≡ hasMark (getD row 1 0) 8)

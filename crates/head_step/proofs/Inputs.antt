@@ -21,12 +21,11 @@ use Rattle.protocol.specs.Record.{readingOr0, reading}
 use Rattle.protocol.specs.Step.{withLast, effect, isTested, act, takenAs, actionsOf, actionOf}
 use Rattle.protocol.specs.Row.{readingPlus1, sentOf}
 use Rattle.protocol.proofs.Tests.{cases, cond-elim}
-use Rattle.head_row.specs.Promises.{Acts}
+use Rattle.head_row.specs.Promises.{Gives, Acts}
 use Rattle.head_row.proofs.Rows.{last-written}
 use Rattle.head_row.proofs.Fitting.{last-fits}
 use Rattle.head_step.specs.Sized.{InputSized}
-use Rattle.head_step.proofs.Sends.{Gives}
-use Rattle.head_step.proofs.Closing.{untested-gives}
+use Rattle.head_step.proofs.Tested.{untested-gives}
 use Rattle.head_step.proofs.Effects.{reading-written}
 
 -- A VOTE'S READING, as the input has it and as the row has it

@@ -1,5 +1,4 @@
 -- What the code of a head's step makes of a row is what the definitions make of the record.
-pub mod Sends
-pub mod Closing
+pub mod Tested
 pub mod Effects
 pub mod Inputs

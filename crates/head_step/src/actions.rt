@@ -1,14 +1,15 @@
 // What each of the ten actions does to a head's row, its reading being the last reading already, and the test at its end.
-use crate::early::close_early;
-use crate::frames::adjust;
-use crate::frames::head_index;
-use crate::frames::is_undecided;
-use crate::frames::lead;
-use crate::frames::no_frame;
-use crate::frames::propose;
-use crate::frames::vote;
+use head_early::close_early;
+use head_frames::adjust;
+use head_frames::lead;
+use head_frames::propose;
+use head_frames::vote;
 use head_open::has_mark;
+use head_open::is_undecided;
 use head_open::with_mark;
+use head_row::head_index;
+use head_row::no_frame;
+use head_row::reading_if;
 use protocol::Row;
 use protocol::Sent;
 use protocol::at;
@@ -90,16 +91,27 @@ fn outranks(c: u32, held: u32) -> bool
     held == 0 || std::num::wrapping_add_u32(c, 1) < held
 }
 
+// Whether the head's candidate is then the one that a vote names; name and held are that one and the head's as the row has them.
+fn names_candidate(adopts: bool, name: u32, held: u32) -> bool
+    ensures { λ b. ⌜ b ≡ (adopts || eqb name held) ⌝ }
+{
+    adopts || name == held
+}
+
 // "Otherwise the carried reading (or none) becomes the sender's vote reading; .. h adopts it and votes"; it is the sender's latest vote.
+// "a vote taken that names another candidate leaves its sender with none".
 fn take_vote(row: &mut Row, p: u32, serial: u32, c: u32, x: u32) -> Sent
     ensures { λ s. ⌜ (p < 16 → serial < 16 → c < 16 → (y : OptReading) → x ≡ readingPlus1 y → readingOr0 y < 2 ^ 28
         → Acts (takeVote p serial c y) (now (row .entry)) (now (row .exit)) s) ⌝ }
 {
     let q = head_index(p);
-    row[at::VOTE_READINGS + q] = x;
+    let name = std::num::wrapping_add_u32(c, 1);
+    let held = row[at::CANDIDATE];
+    let adopts = outranks(c, held);
+    row[at::VOTE_READINGS + q] = reading_if(names_candidate(adopts, name, held), x);
     row[at::VOTE_SERIALS + q] = std::num::wrapping_add_u32(serial, 1);
-    row[at::LATEST_VOTES + q] = std::num::wrapping_add_u32(c, 1);
-    if outranks(c, row[at::CANDIDATE]) {
+    row[at::LATEST_VOTES + q] = name;
+    if adopts {
         return vote(row, c);
     }
     no_frame()

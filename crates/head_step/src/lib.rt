@@ -1,7 +1,5 @@
 // One head's step, in place on its row: what an accepted action does, for a board and for the run of a sheet.
 mod actions;
-mod early;
-mod frames;
 
 use actions::adjust_close;
 use actions::adjust_delivered;
@@ -12,7 +10,7 @@ use actions::start_sent;
 use actions::vote_close;
 use actions::vote_delivered;
 use actions::vote_turn;
-use frames::no_frame;
+use head_row::no_frame;
 use protocol::Input;
 use protocol::Row;
 use protocol::Sent;

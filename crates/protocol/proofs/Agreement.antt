@@ -115,7 +115,7 @@ module _ (g : Setting) where
       go : (n : OptNumber) → namedIn votes x ≡ n → OwnReading s e
       go NoNumber u =
           same-reading (choice ∙ rw u refl)
-          (reads (λ _. voteOf (recordOf g s (e .entry .head)) (e .entry .head)) (own-unsent x m u ∙ own-kept (baseOf g s e) (t .action) is-open ∙ ap (voteOf (recordOf g s (e .entry .head))) own-is))
+          (reads (λ _. voteOf (recordOf g s (e .entry .head)) (e .entry .head)) (own-unsent x m u ∙ own-kept (λ k. k .vote) (λ k y. refl) (baseOf g s e) (t .action) is-open ∙ ap (voteOf (recordOf g s (e .entry .head))) own-is))
       go (SomeNumber c) u =
           new-reading c (choice ∙ rw u refl)
           (naming votes (allowed (baseOf g s e) (t .action) is-open) u .is-open)

@@ -8,15 +8,15 @@ use mathlib.Core.List.{List, [], _∷_}
 use Prim.Native.Nat.{ℕ, zero, suc, _<_}
 use native.Mathlib.Omega.{arith}
 use lib.Dec.{eqb}
-use lib.ListN.{length, getD, set, length-set}
+use lib.ListN.{length, getD, set, length-set, length-map, List·getD-map}
 use lib.Seq.{getD-set-same, getD-set-other}
 use borrow.Author.Tests.{eqb-true, eqb-false}
 use Rattle.protocol.specs.Types.{Reading, OptReading, SomeReading, OptNumber, NoNumber, SomeNumber, Sender, Phase, HeadRecord, Stepped, Frame, NoFrame, Start, Vote, Adjust}
 use Rattle.protocol.specs.Types.{Action, Look, StartSent, StartDelivered, StartConfirmed, VoteTurn, VoteDelivered, VoteClose, AdjustTurn, AdjustDelivered, AdjustClose}
 use Rattle.protocol.specs.Words.{hasSender}
-use Rattle.protocol.specs.Record.{isNumber, reading, noSender, keptOf, startOf, voteOf}
+use Rattle.protocol.specs.Record.{isNumber, reading, noSender, keptOf, startOf, voteOf, sameNumber}
 use Rattle.protocol.specs.Median.{median}
-use Rattle.protocol.specs.Step.{choose, earlyIf, withStart, withLast, keepVote, keepAdjust, accepted, silent, vote, adjust, mayLead, lead, voteReadings, mayAdjust, propose, isPassedOver, outranks, delivered, effect, isClosed, sameNumber, allSpoken, isUnderWay, mayClose, closeEarly, concluded, isTested, act, takenAs}
+use Rattle.protocol.specs.Step.{choose, earlyIf, withStart, withVoteReading, withLast, withSenders, keepVote, keepAdjust, keptFor, dropOthers, accepted, silent, vote, adjust, mayLead, lead, voteReadings, mayAdjust, propose, isPassedOver, outranks, candidateAfter, delivered, effect, isClosed, allSpoken, isUnderWay, mayClose, closeEarly, concluded, isTested, act, takenAs}
 use Rattle.protocol.specs.Run.{isDeliveredBy, carriedReading}
 pub use Rattle.protocol.specs.Record.{Kind, votes, adjusts, phaseOf, latestOf}
 pub use Rattle.protocol.specs.Step.{number}
@@ -98,9 +98,6 @@ taken (SomeNumber j) = suc j
 
 -- FIRST PART: the record with the action's mark set and what is kept of a delivered frame
 
-abbrev pub withSenders : HeadRecord → List Sender → HeadRecord
-withSenders r l = record { n = r .n; f = r .f; own = r .own; last = r .last; started = r .started; confirmed = r .confirmed; vote = r .vote; adjust = r .adjust; adjustment = r .adjustment; senders = l }
-
 abbrev pub passedOver : Kind → HeadRecord → ℕ → ℕ → Bool
 passedOver k r p j = isPassedOver (phaseOf k r) (takenOf k (keptOf r p)) j
 
@@ -114,7 +111,7 @@ ignored r p (Adjust j c x) = passedOver adjusts r p j
 abbrev pub keptAfter : HeadRecord → ℕ → Frame → Sender
 keptAfter r p NoFrame = keptOf r p
 keptAfter r p Start = withStart (keptOf r p) (SomeReading (r .last))
-keptAfter r p (Vote j c x) = keepVote (keptOf r p) j c x
+keptAfter r p (Vote j c x) = keptFor (candidateAfter c (r .vote .choice)) (keepVote (keptOf r p) j c x)
 keptAfter r p (Adjust j c x) = keepAdjust (keptOf r p) j c
 
 abbrev pub sendersAfter : HeadRecord → ℕ → Frame → List Sender
@@ -369,16 +366,26 @@ set-holds P (x ∷ l) zero s h k (suc q) = k (suc q)
 set-holds P (x ∷ l) (suc p) s h k zero = k zero
 set-holds P (x ∷ l) (suc p) s h k (suc q) = set-holds (λ j. P (suc j)) l p s h (λ j. k (suc j)) q
 
+-- once c is the candidate: what is kept of each sender, of which only the vote reading may be another
+pub kept-for-at : (c : ℕ) (m : HeadRecord) (q : ℕ) → keptOf (dropOthers c m) q ≡ keptFor (SomeNumber c) (keptOf m q)
+kept-for-at c m q = List·getD-map (keptFor (SomeNumber c)) (m .senders) q noSender
+
+pub kept-for-keeps : {X : Type 0} (g : Sender → X) → ((k : Sender) (x : OptReading) → g (withVoteReading k x) ≡ g k) → (c : ℕ) (m : HeadRecord) (q : ℕ)
+    → g (keptOf (dropOthers c m) q) ≡ g (keptOf m q)
+kept-for-keeps g e c m q = ap g (kept-for-at c m q) ∙ e (keptOf m q) _
+
 -- a part of what is kept by a sender that no sending changes: start reading and serials taken
 abbrev pub Unsaid : {X : Type 0} → (Sender → X) → Type 0
 Unsaid g = (k : Sender) (x : OptReading) (c a : OptNumber) → g (record { start = k .start; vote = x; voted = k .voted; adjusted = k .adjusted; candidate = c; adjuster = a }) ≡ g k
 
--- a sending changes nothing of a sender but the head's own vote reading and its own latest vote or adjust
+-- a sending changes nothing of a sender but vote readings and the head's own latest vote or adjust
 pub send-keeps : {X : Type 0} (g : Sender → X) → Unsaid g → (x : Sending) (m : HeadRecord) (q : ℕ) → g (keptOf (send x m .after) q) ≡ g (keptOf m q)
 unfolding vote adjust
 send-keeps g e nothing m q = refl
 send-keeps g e start m q = refl
-send-keeps g e (voting c) m q = set-keeps g (m .senders) (m .own) q _ (e _ _ _ _)
+send-keeps g e (voting c) m q =
+    let kept = kept-for-keeps g (λ k x. e k x (k .candidate) (k .adjuster)) c m in
+    set-keeps g (dropOthers c m .senders) (m .own) q _ (e (keptOf m (m .own)) _ _ _ ∙ sym (kept (m .own))) ∙ kept q
 send-keeps g e (adjusting c x) m q = set-keeps g (m .senders) (m .own) q _ (e (keptOf m (m .own)) _ _ _)
 
 -- number of heads, own number, last reading, and the marks that only an action's entry sets, in the order of the actions
@@ -396,7 +403,7 @@ pub send-same : (x : Sending) (m : HeadRecord) → Same m (send x m .after)
 unfolding vote adjust
 send-same nothing m = record { n = refl; f = refl; own = refl; last = refl; size = refl }
 send-same start m = record { n = refl; f = refl; own = refl; last = refl; size = refl }
-send-same (voting c) m = record { n = refl; f = refl; own = refl; last = refl; size = length-set (m .senders) (m .own) _ }
+send-same (voting c) m = record { n = refl; f = refl; own = refl; last = refl; size = length-set (dropOthers c m .senders) (m .own) _ ∙ length-map (m .senders) _ }
 send-same (adjusting c x) m = record { n = refl; f = refl; own = refl; last = refl; size = length-set (m .senders) (m .own) _ }
 
 pub send-marks : (x : Sending) (m : HeadRecord) → marksOf (send x m .after) ≡ marksOf m
@@ -627,11 +634,13 @@ pub latest-said : (k : Kind) (P : OptNumber → Type 0) (x : Sending) (m : HeadR
 unfolding vote adjust
 latest-said k P nothing m p h say = h
 latest-said k P start m p h say = h
-latest-said votes P (voting c) m p h say = said (m .senders) (m .own) p _ (say c refl) h
+latest-said votes P (voting c) m p h say = said (dropOthers c m .senders) (m .own) p _ (say c refl) (subst P (sym (kept-for-keeps (λ k. k .candidate) (λ k x. refl) c m p)) h)
   where
     said : (l : List Sender) (o p : ℕ) (z : Sender) → (p ≡ o → P (z .candidate)) → P (getD l p noSender .candidate) → P (getD (set l o z) p noSender .candidate)
     said l o p z new old = set-holds (λ q y. q ≡ p → P (y .candidate)) l o z (λ e. new (sym e)) (λ q e. subst (λ (i : ℕ). P (getD l i noSender .candidate)) (sym e) old) p refl
-latest-said adjusts P (voting c) m p h say = subst P (sym (set-keeps (λ z. z .adjuster) (m .senders) (m .own) p _ refl)) h
+latest-said adjusts P (voting c) m p h say =
+    let kept = kept-for-keeps (λ k. k .adjuster) (λ k x. refl) c m in
+    subst P (sym (set-keeps (λ z. z .adjuster) (dropOthers c m .senders) (m .own) p _ (sym (kept (m .own))) ∙ kept p)) h
 latest-said votes P (adjusting c x) m p h say = subst P (sym (set-keeps (λ z. z .candidate) (m .senders) (m .own) p _ refl)) h
 latest-said adjusts P (adjusting c x) m p h say = said (m .senders) (m .own) p _ (say c refl) h
   where
@@ -671,23 +680,27 @@ delivered-sending k r AdjustClose c nu na t u = none-is-some na
 
 -- A HEAD'S OWN VOTE READING
 
--- no delivery changes it, since a vote from oneself is closed
-pub own-kept : (r : HeadRecord) (a : Action) → isClosed r a ≡ false → voteOf (prepared r a) (r .own) ≡ voteOf r (r .own)
+-- of what a head keeps of itself, a delivery changes the start reading alone, since a vote or adjust from oneself is closed
+pub own-kept : {X : Type 0} (part : Sender → X) → ((k : Sender) (x : OptReading) → part (withStart k x) ≡ part k)
+    → (r : HeadRecord) (a : Action) → isClosed r a ≡ false → part (keptOf (prepared r a) (r .own)) ≡ part (keptOf r (r .own))
 unfolding isClosed
-own-kept r Look e = refl
-own-kept r StartSent e = refl
-own-kept r (StartDelivered p) e = column-kept (λ k. k .vote) r p Start (r .own) refl
-own-kept r StartConfirmed e = refl
-own-kept r VoteTurn e = refl
-own-kept r (VoteDelivered p k c x) e = go (passedOver votes r p k)
+own-kept part keeps r a e = go a e
   where
-    go : (b : Bool) → getD (cond b (r .senders) (set (r .senders) p (keepVote (keptOf r p) k c x))) (r .own) noSender .vote ≡ voteOf r (r .own)
-    go true = refl
-    go false = ap (λ (z : Sender). z .vote) (getD-set-other (r .senders) p (r .own) _ noSender (λ d. eqb-false p (r .own) (or-left (eqb p (r .own)) false e) (sym d)))
-own-kept r VoteClose e = refl
-own-kept r AdjustTurn e = refl
-own-kept r (AdjustDelivered p k c x) e = column-kept (λ z. z .vote) r p (Adjust k c x) (r .own) refl
-own-kept r AdjustClose e = refl
+    of-another : (b : Bool) (p : ℕ) (z : Sender) → (eqb p (r .own) || false) ≡ false → part (getD (cond b (r .senders) (set (r .senders) p z)) (r .own) noSender) ≡ part (keptOf r (r .own))
+    of-another true p z e = refl
+    of-another false p z e = ap part (getD-set-other (r .senders) p (r .own) z noSender (λ d. eqb-false p (r .own) (or-left (eqb p (r .own)) false e) (sym d)))
+
+    go : (a : Action) → isClosed r a ≡ false → part (keptOf (prepared r a) (r .own)) ≡ part (keptOf r (r .own))
+    go Look e = refl
+    go StartSent e = refl
+    go (StartDelivered p) e = column-kept part r p Start (r .own) (keeps (keptOf r p) _)
+    go StartConfirmed e = refl
+    go VoteTurn e = refl
+    go (VoteDelivered p k c x) e = of-another (passedOver votes r p k) p _ e
+    go VoteClose e = refl
+    go AdjustTurn e = refl
+    go (AdjustDelivered p k c x) e = of-another (passedOver adjusts r p k) p _ e
+    go AdjustClose e = refl
 
 -- only a vote changes it: it becomes the start reading of the candidate
 pub own-unsent : (x : Sending) (m : HeadRecord) → namedIn votes x ≡ NoNumber → voteOf (send x m .after) (m .own) ≡ voteOf m (m .own)
@@ -703,7 +716,9 @@ own-sent nothing m c b e = none-is-some e
 own-sent start m c b e = none-is-some e
 own-sent (voting w) m c b e =
     subst (λ (z : ℕ). voteOf (vote w m .after) (m .own) ≡ startOf (vote w m .after) z) (same-number e)
-    (ap (λ (z : Sender). z .vote) (getD-set-same (m .senders) (m .own) _ noSender b) ∙ sym (set-keeps (λ z. z .start) (m .senders) (m .own) w _ refl))
+    (let kept = kept-for-keeps (λ k. k .start) (λ k x. refl) w m in
+    ap (λ (z : Sender). z .vote) (getD-set-same (dropOthers w m .senders) (m .own) _ noSender (rw (length-map (m .senders) (keptFor (SomeNumber w))) b))
+    ∙ sym (set-keeps (λ z. z .start) (dropOthers w m .senders) (m .own) w _ (sym (kept (m .own))) ∙ kept w))
 own-sent (adjusting w x) m c b e = none-is-some e
 
 -- a start is sent once

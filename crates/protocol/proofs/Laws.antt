@@ -10,7 +10,7 @@ use Prim.Native.Nat.{ℕ, suc, _+_, _-_, _*_, _^_, _≤_, _<_, min}
 use native.Mathlib.Omega.{arith}
 use lib.Dec.{ltb, leb, eqb}
 use lib.IntN.{natAbs, subℕ, _-ℤ_}
-use lib.ListN.{length, set}
+use lib.ListN.{length, set, length-map}
 use lib.Seq.{getD-set-same, getD-set-other}
 use borrow.Author.Tests.{lt-ltb, le-ltb, leb-true, ltb-true, ltb-false, eqb-true, eq-eqb, ne-eqb}
 use Rattle.protocol.specs.Base.{_⇒_, any}
@@ -18,14 +18,14 @@ use Rattle.protocol.specs.Types.{Reading, OptReading, NoReading, SomeRea
 use Rattle.protocol.specs.Types.{Stepped, Vote, Accepted, Refused, Cause, Input}
 use Rattle.protocol.specs.Types.{Action, Look, StartSent, StartDelivered, StartConfirmed, VoteTurn, VoteDelivered, VoteClose, AdjustTurn, AdjustDelivered, AdjustClose}
 use Rattle.protocol.specs.Words.{isCorrect}
-use Rattle.protocol.specs.Record.{isReading, isNumber, readingOr0, numberOr0, reading, noSender, keptOf, startOf, voteOf, startOfChoice, chosenStart, outcome, recordInRange}
-use Rattle.protocol.specs.Step.{withLast, keepVote, keepAdjust, silent, refused, vote, adjust, startsHeld, mayLead, lead, voteReadings, mayAdjust, propose, isAbove, isPassedOver, outranks, delivered, effect, isClosed, sameNumber, allSpoken, isUnderWay, mayClose, isTested, act, takenAs, takeAction, actionOf, inputFits, step}
+use Rattle.protocol.specs.Record.{isReading, isNumber, readingOr0, numberOr0, reading, noSender, keptOf, startOf, voteOf, startOfChoice, chosenStart, outcome, sameNumber, readingCounts, recordInRange}
+use Rattle.protocol.specs.Step.{withLast, keepVote, keepAdjust, keptFor, dropOthers, silent, refused, vote, adjust, startsHeld, mayLead, lead, voteReadings, mayAdjust, propose, isAbove, isPassedOver, outranks, candidateAfter, delivered, effect, isClosed, allSpoken, isUnderWay, mayClose, isTested, act, takenAs, takeAction, actionOf, inputFits, step}
 use Rattle.protocol.specs.Run.{Event, History, recordOf}
 use Rattle.protocol.specs.Results.{ifAdopted, outcomeWord, adjustmentWord, startWord, headWords}
 use Rattle.protocol.specs.Premises.{closing, each, isSteady, correctTakes, correctCloses, premise2, premise5, noneBetween, premise6, premise7, premise8}
 use Rattle.protocol.proofs.Tests.{absurd-bool, cases, cond-elim, not-true, not-false, not-is-false, and-left, and-right, and-both, and-false, all-below, below-all, or-left, or-right, or-cases, or-first, or-second, implied, eqb-same, all-in}
 use Rattle.protocol.proofs.Moments.{Earlier, earlier-in, each-at}
-use Rattle.protocol.proofs.Effects.{Kind, votes, adjusts, phaseOf, latestOf, prepared, sendingOf, effect-split, send-same, set-keeps, act-accepted, both-name, none-is-some}
+use Rattle.protocol.proofs.Effects.{Kind, votes, adjusts, phaseOf, latestOf, voting, prepared, sendingOf, effect-split, send-same, kept-for-at, send-keeps, act-accepted, both-name, none-is-some, own-sent}
 use Rattle.protocol.proofs.Valid.{Valid, Taken}
 use Rattle.protocol.proofs.Ranges.{in-range}
 use Rattle.protocol.proofs.Phases.{close-by-entry}
@@ -91,7 +91,7 @@ lead-keeps-starts : (r : HeadRecord) (p : ℕ) → startOf (lead r .after) p ≡
 unfolding lead vote
 lead-keeps-starts r p =
     cond-elim (λ (t : Stepped). startOf (t .after) p ≡ startOf r p) (mayLead r)
-    (λ _. set-keeps (λ k. k .start) (r .senders) (r .own) p _ refl) (λ _. refl)
+    (λ _. send-keeps (λ k. k .start) (λ k x c a. refl) (voting (r .own)) r p) (λ _. refl)
 
 -- "at least f + 1 start readings held": f of them, which the faulty heads alone could have sent, do not suffice
 pub leads-with-more-than-f : (r : HeadRecord) → mayLead r ≡ true → r .f < startsHeld r
@@ -127,12 +127,12 @@ vote-carries-start c r = refl
 -- "it is also h's own vote reading"
 pub own-vote-reading : (c : ℕ) (r : HeadRecord) → r .own < length (r .senders) → voteOf (vote c r .after) (r .own) ≡ startOf r c
 unfolding vote
-own-vote-reading c r h = ap (λ (k : Sender). k .vote) (getD-set-same (r .senders) (r .own) _ noSender h)
+own-vote-reading c r h = own-sent (voting c) r c h refl ∙ send-keeps (λ k. k .start) (λ k x d a. refl) (voting c) r c
 
 -- document 02, No. 4, "its own .. latest vote": the one that it sends
 pub own-latest-vote : (c : ℕ) (r : HeadRecord) → r .own < length (r .senders) → keptOf (vote c r .after) (r .own) .candidate ≡ SomeNumber c
 unfolding vote
-own-latest-vote c r h = ap (λ (k : Sender). k .candidate) (getD-set-same (r .senders) (r .own) _ noSender h)
+own-latest-vote c r h = ap (λ (k : Sender). k .candidate) (getD-set-same (dropOthers c r .senders) (r .own) _ noSender (rw (length-map (r .senders) (keptFor (SomeNumber c))) h))
 
 pub own-latest-adjust : (a : ℕ) (x : Reading) (r : HeadRecord) → r .own < length (r .senders) → keptOf (adjust a x r .after) (r .own) .adjuster ≡ SomeNumber a
 unfolding adjust
@@ -147,25 +147,59 @@ pub none-does-not-count : (r : HeadRecord) (p : ℕ) → voteOf r p ≡ NoReadin
 unfolding voteReadings
 none-does-not-count r p e = rw e refl
 
-vote-keeps-others : (c : ℕ) (r : HeadRecord) (p : ℕ) → p ≢ r .own → keptOf (vote c r .after) p ≡ keptOf r p
+-- document 02, No. 5: "changing candidate drops the others": of other senders' readings those are kept whose latest vote names the new one
+kept-of-others : (c : ℕ) (r : HeadRecord) (p : ℕ) → p ≢ r .own → keptOf (vote c r .after) p ≡ keptFor (SomeNumber c) (keptOf r p)
 unfolding vote
-vote-keeps-others c r p d = getD-set-other (r .senders) (r .own) p _ noSender d
+kept-of-others c r p d = getD-set-other (dropOthers c r .senders) (r .own) p _ noSender d ∙ kept-for-at c r p
+
+kept-of-voter : (c : ℕ) (k : Sender) → k .candidate ≡ SomeNumber c → keptFor (SomeNumber c) k ≡ k
+kept-of-voter c k e = rw (e, eqb-same c) refl
+
+reading-of-another : (v : OptNumber) (k : Sender) (c : ℕ) → k .candidate ≡ SomeNumber c → v ≢ SomeNumber c → keptFor v k .vote ≡ NoReading
+reading-of-another v k c e n =
+    cond-elim (λ (x : OptReading). x ≡ NoReading) (sameNumber (k .candidate) v)
+    (λ t. let b = both-name (k .candidate) v t in absurd (n (b .2 ∙ sym (b .1) ∙ e))) (λ _. refl)
+
+pub reading-for-candidate-kept : (c : ℕ) (r : HeadRecord) (p : ℕ) → p ≢ r .own → keptOf r p .candidate ≡ SomeNumber c → voteOf (vote c r .after) p ≡ voteOf r p
+reading-for-candidate-kept c r p d e = ap (λ (k : Sender). k .vote) (kept-of-others c r p d ∙ kept-of-voter c (keptOf r p) e)
+
+pub reading-for-another-dropped : (c : ℕ) (r : HeadRecord) (p : ℕ) → p ≢ r .own → keptOf r p .candidate ≢ SomeNumber c → voteOf (vote c r .after) p ≡ NoReading
+reading-for-another-dropped c r p d n =
+    ap (λ (k : Sender). k .vote) (kept-of-others c r p d)
+    ∙ cond-elim (λ (x : OptReading). x ≡ NoReading) (sameNumber (keptOf r p .candidate) (SomeNumber c))
+    (λ t. let b = both-name (keptOf r p .candidate) (SomeNumber c) t in absurd (n (b .1 ∙ sym (b .2)))) (λ _. refl)
+
+-- "another sender's vote reading": the head's own is not under the test of the ranges
+pub own-reading-untested : (r : HeadRecord) → readingCounts r (r .own) ≡ true
+unfolding readingCounts
+own-reading-untested r = or-first (eqb (r .own) (r .own)) _ (eqb-same (r .own))
 
 -- a vote is delivered from another head p, with a serial above the last one taken, before the vote close
 module _ (r : HeadRecord) (p k c : ℕ) (x : OptReading) (h : p < length (r .senders)) (d : p ≢ r .own) (o : r .vote .closed ≡ false) (a : Above k (keptOf r p .voted)) where
-  vote-taken : keptOf (effect r (VoteDelivered p k c x) .after) p ≡ keepVote (keptOf r p) k c x
+  vote-taken : keptOf (effect r (VoteDelivered p k c x) .after) p ≡ keptFor (candidateAfter c (r .vote .choice)) (keepVote (keptOf r p) k c x)
   unfolding effect
   vote-taken =
-      taken-or-adopted (r .vote) (keptOf r p .voted) k c r _ (vote c) (λ (t : Stepped). keptOf (t .after) p ≡ keepVote (keptOf r p) k c x) o a
-      (λ _. vote-keeps-others c _ p d ∙ getD-set-same (r .senders) p _ noSender h) (λ _. getD-set-same (r .senders) p _ noSender h)
+      taken-or-adopted (r .vote) (keptOf r p .voted) k c r _ (vote c) (λ (t : Stepped). keptOf (t .after) p ≡ keptFor (candidateAfter c (r .vote .choice)) (keepVote (keptOf r p) k c x)) o a
+      (λ _. kept-of-others c _ p d ∙ ap (keptFor (SomeNumber c)) (getD-set-same (r .senders) p _ noSender h) ∙ kept-of-voter c _ refl) (λ _. getD-set-same (r .senders) p _ noSender h)
 
-  -- 5: "the carried reading (or none) becomes the sender's vote reading"
-  pub vote-reading-taken : voteOf (effect r (VoteDelivered p k c x) .after) p ≡ x
-  vote-reading-taken = ap (λ (s : Sender). s .vote) vote-taken
+  candidate-after : effect r (VoteDelivered p k c x) .after .vote .choice ≡ candidateAfter c (r .vote .choice)
+  unfolding effect vote
+  candidate-after =
+      taken-or-adopted (r .vote) (keptOf r p .voted) k c r _ (vote c) (λ (t : Stepped). t .after .vote .choice ≡ candidateAfter c (r .vote .choice)) o a
+      (λ t. rw t refl) (λ t. rw t refl)
 
-  pub carried-reading-counts : (y : Reading) → x ≡ SomeReading y
+  -- 5: "the carried reading (or none) becomes the sender's vote reading", if the head then has the candidate that is named
+  pub vote-reading-taken : effect r (VoteDelivered p k c x) .after .vote .choice ≡ SomeNumber c → voteOf (effect r (VoteDelivered p k c x) .after) p ≡ x
+  vote-reading-taken e = ap (λ (s : Sender). s .vote) vote-taken ∙ rw (sym candidate-after ∙ e, eqb-same c) refl
+
+  pub carried-reading-counts : effect r (VoteDelivered p k c x) .after .vote .choice ≡ SomeNumber c → (y : Reading) → x ≡ SomeReading y
       → voteReadings (effect r (VoteDelivered p k c x) .after) (suc p) ≡ y .0 ∷ voteReadings (effect r (VoteDelivered p k c x) .after) p
-  carried-reading-counts y e = vote-reading-counts (effect r (VoteDelivered p k c x) .after) p y (vote-reading-taken ∙ e)
+  carried-reading-counts f y e = vote-reading-counts (effect r (VoteDelivered p k c x) .after) p y (vote-reading-taken f ∙ e)
+
+  -- document 02, No. 5: "a vote taken that names another candidate leaves its sender with none"
+  pub another-candidate-leaves-none : effect r (VoteDelivered p k c x) .after .vote .choice ≢ SomeNumber c → voteOf (effect r (VoteDelivered p k c x) .after) p ≡ NoReading
+  another-candidate-leaves-none n =
+      ap (λ (s : Sender). s .vote) vote-taken ∙ reading-of-another (candidateAfter c (r .vote .choice)) (keepVote (keptOf r p) k c x) c refl (λ e. n (candidate-after ∙ e))
 
   -- document 02, No. 4: it is the "sender's latest vote"
   pub latest-vote-taken : keptOf (effect r (VoteDelivered p k c x) .after) p .candidate ≡ SomeNumber c

@@ -16,6 +16,7 @@ pub mod Runs
 pub mod Broken
 pub mod Frames
 pub mod Spoken
+pub mod Voted
 pub mod Starts
 pub mod Rounds
 pub mod Adjustments

@@ -5,26 +5,28 @@
 -- sent the choice is at most n − k. An adjustment is carried, or it is a median of readings in range.
 -- Main results: `in-range`, `range-test`, `median-in`, `effect-in-range`, `take-in-range`, `step-in-range`,
 -- `fresh-in-range`, `run-in-range`, `frames-in-range`, `votes-below`.
-use mathlib.Core.Path.{_≡_, refl, sym, _∙_, subst}
+use mathlib.Core.Path.{_≡_, refl, sym, _∙_, ap, ap₂, subst}
 use mathlib.Core.Bool.{Bool, true, false, cond, not, _&&_, _||_}
 use mathlib.Core.List.{List, _∷_}
 use Prim.Native.Nat.{ℕ, zero, suc, _+_, _*_, _^_, _≤_, _<_}
 use native.Mathlib.Omega.{arith}
 use lib.Dec.{ltb, leb, eqb, lit<}
 use lib.ListN.{getD, set, replicate, getD-replicate}
-use borrow.Author.Tests.{eqb-true, eq-eqb, ltb-true, ltb-false, lt-ltb, le-ltb, leb-true, le-leb}
+use lib.Seq.{getD-set-other}
+use borrow.Author.Tests.{eqb-true, eqb-false, eq-eqb, ltb-true, ltb-false, lt-ltb, le-ltb, leb-true, le-leb}
 use Rattle.protocol.specs.Base.{_⇒_}
 use Rattle.protocol.specs.Types.{Reading, OptReading, NoReading, SomeReading, OptNumber, NoNumber, SomeNumber, Sender, HeadRecord, Setting, Input, Stepped, Frame, NoFrame, Start, Vote, Adjust}
 use Rattle.protocol.specs.Types.{Action, Look, StartSent, StartDelivered, StartConfirmed, VoteTurn, VoteDelivered, VoteClose, AdjustTurn, AdjustDelivered, AdjustClose}
 use Rattle.protocol.specs.Words.{headsFit}
-use Rattle.protocol.specs.Record.{isReading, isNumber, readingOr0, numberOr0, reading, noSender, keptOf, startOf, voteOf, fresh, readingInRange, serialInRange, nameInRange, senderInRange, senderIsNone, sentInRange, phaseInRange, marksInRange, recordInRange}
+use Rattle.protocol.specs.Record.{isReading, isNumber, readingOr0, numberOr0, reading, noSender, keptOf, startOf, voteOf, fresh, readingInRange, serialInRange, nameInRange, senderInRange, senderIsNone, sameNumber, readingCounts, sentInRange, phaseInRange, marksInRange, recordInRange}
 use Rattle.protocol.specs.Median.{median}
-use Rattle.protocol.specs.Step.{withVoteReading, withCandidate, withAdjuster, withLast, accepted, vote, adjust, prepend, voteReadings, outranks, effect, isClosed, mayClose, closeEarly, concluded, isTested, act, takenAs, takeAction, actionsOf, actionOf, inputFits, step}
+use Rattle.protocol.specs.Step.{withVoteReading, withCandidate, withAdjuster, withLast, keepVote, keptFor, dropOthers, accepted, vote, adjust, prepend, voteReadings, outranks, candidateAfter, effect, isClosed, mayClose, closeEarly, concluded, isTested, act, takenAs, takeAction, actionsOf, actionOf, inputFits, step}
 use Rattle.protocol.specs.Run.{History, recordOf, isDeliveredBy, orElse, frameSent, carriedReading}
-use Rattle.protocol.proofs.Tests.{absurd-bool, cases, cond-elim, not-true, not-false, parts, and-left, and-right, and-both, or-left, or-right, or-first, or-second, or-cases, implied, all-below, below-all}
+use Rattle.protocol.proofs.Tests.{absurd-bool, cases, cond-elim, not-true, not-false, parts, and-left, and-right, and-both, or-left, or-right, or-first, or-second, or-cases, implied, implies, all-below, below-all}
 use Rattle.protocol.proofs.Medians.{every-at, median-holds}
 pub use Rattle.protocol.proofs.Medians.{Every}
-use Rattle.protocol.proofs.Effects.{Kind, votes, adjusts, phaseOf, takenOf, latestOf, number, Delivery, noDelivery, deliveryIn, serialOf, named, set-holds, ignored, keptAfter, prepared, Sending, send, effect-split, Why, itself, told, Naming, Source, computed, passed-on, Allowed, sends-nothing, sends-start, sends-vote, sends-adjust, no-number, allowed, none-is-some, closed-last, earlyNow, taken-as, taken-delivery}
+use Rattle.protocol.proofs.Effects.{Kind, votes, adjusts, phaseOf, takenOf, latestOf, number, passedOver, namedIn, sendingOf, column-kept, set-keeps, kept-for-at, Delivery, noDelivery, deliveryIn, serialOf, named, set-holds, ignored, keptAfter, prepared, Sending, nothing, voting, adjusting, send, effect-split, Why, itself, told, Naming, Source, computed, passed-on, Allowed, sends-nothing, sends-start, sends-vote, sends-adjust, no-number, allowed, none-is-some, closed-last, earlyNow, taken-as, taken-delivery}
+use Rattle.protocol.proofs.Effects as Effects
 use Rattle.protocol.proofs.Valid.{baseOf, Valid, start, more, heads-fit, record-at, record-other, by-head, delivery-at, fixed}
 
 -- THE RANGES AS FACTS; a reading or a number that is none counts as 0, which is in every range
@@ -55,6 +57,10 @@ MarksInRange r =
       adjusting : (r .adjust .turn || r .adjust .closed) ≡ true → r .vote .closed ≡ true;
     }
 
+-- vote readings of other senders are for the candidate
+abbrev pub Counted : HeadRecord → Type 0
+Counted r = (p : ℕ) → p < r .n → readingCounts r p ≡ true
+
 pub record InRange (r : HeadRecord) : Type 0 where
   pub heads : (2 ≤ r .n) × (r .n ≤ 16) × (2 * r .f + 1 ≤ r .n)
   pub own : r .own < r .n
@@ -65,6 +71,7 @@ pub record InRange (r : HeadRecord) : Type 0 where
   pub early : (k : Kind) → phaseOf k r .early ≡ true → phaseOf k r .closed ≡ true
   pub marks : MarksInRange r
   pub kept : (p : ℕ) → KeptInRange (r .n) p (keptOf r p)
+  pub counted : Counted r
 
 -- what a frame carries, an action with the frame that it delivers, and an answer
 pub record FrameInRange (n : ℕ) (x : Frame) : Type 0 where
@@ -82,7 +89,7 @@ ActionInRange n a = DeliveryInRange n (deliveryIn a)
 abbrev pub AnswerInRange : ℕ → Stepped → Type 0
 AnswerInRange n t = InRange (t .after) × FrameInRange n (t .frame)
 
-for-both : (P : Kind → Type 0) → P votes → P adjusts → (k : Kind) → P k
+pub for-both : (P : Kind → Type 0) → P votes → P adjusts → (k : Kind) → P k
 for-both P v a votes = v
 for-both P v a adjusts = a
 
@@ -139,20 +146,16 @@ sent-test : (n : ℕ) (m : OptNumber) (sent : ℕ) → SentInRange n m sent → 
 sent-test n NoNumber sent h = eq-eqb sent 0 h
 sent-test n (SomeNumber v) sent h = and-both (lt-ltb v n (omega arith)) (and-both (le-leb _ _ (h .0)) (le-leb _ _ (h .1)))
 
-implication-test : (a b : Bool) → (a ≡ true → b ≡ true) → (a ⇒ b) ≡ true
-implication-test true b f = f refl
-implication-test false b f = refl
-
 adjustment-test : (m : OptNumber) (x : ℕ) → (m ≡ NoNumber → x ≡ 0) → (isNumber m || eqb x 0) ≡ true
 adjustment-test NoNumber x f = eq-eqb x 0 (f refl)
 adjustment-test (SomeNumber v) x f = refl
 
 abbrev keptTest : HeadRecord → ℕ → Bool
-keptTest r p = cond (ltb p (r .n)) (senderInRange (r .n) (keptOf r p)) (senderIsNone (keptOf r p))
+keptTest r p = cond (ltb p (r .n)) (senderInRange (r .n) (keptOf r p) && readingCounts r p) (senderIsNone (keptOf r p))
 
 kept-test : {r : HeadRecord} → InRange r → (p : ℕ) → p < 16 → keptTest r p ≡ true
 unfolding senderIsNone
-kept-test {r} h p b = cases (ltb p (r .n)) (λ t. rw t (sender-test (r .n) (omega (arith, h .heads .0)) (h .kept p .below (ltb-true _ _ t)))) (λ t. rw (t, h .kept p .above (ltb-false _ _ t) b) refl)
+kept-test {r} h p b = cases (ltb p (r .n)) (λ t. let l = ltb-true _ _ t in rw t (and-both (sender-test (r .n) (omega (arith, h .heads .0)) (h .kept p .below l)) (h .counted p l))) (λ t. rw (t, h .kept p .above (ltb-false _ _ t) b) refl)
 
 pub in-range : {r : HeadRecord} → recordInRange r ≡ true → InRange r
 unfolding recordInRange phaseInRange marksInRange
@@ -168,15 +171,16 @@ in-range {r} e =
       phase = for-both _ (sent-in-range (r .n) (r .vote .choice) (r .vote .sent) (search parts depth 9)) (sent-in-range (r .n) (r .adjust .choice) (r .adjust .sent) (search parts depth 9));
       early = for-both _ (implied (r .vote .early) _ (search parts depth 9)) (implied (r .adjust .early) _ (search parts depth 9));
       marks = record { confirmed = implied (r .confirmed) _ (search parts depth 9); turn = implied (r .vote .turn) _ (search parts depth 10); adjusting = implied (r .adjust .turn || r .adjust .closed) _ (search parts depth 10) };
-      kept = λ p. record { below = λ b. sender-in-range (r .n) (omega arith) (rw (lt-ltb p (r .n) b) at (tested p (omega arith))); above = λ a b. nothing-kept _ (rw (le-ltb p (r .n) a) at (tested p b)) };
+      kept = λ p. record { below = λ b. sender-in-range (r .n) (omega arith) (and-left _ _ (rw (lt-ltb p (r .n) b) at (tested p (omega arith)))); above = λ a b. nothing-kept _ (rw (le-ltb p (r .n) a) at (tested p b)) };
+      counted = λ p b. and-right (senderInRange (r .n) (keptOf r p)) _ (rw (lt-ltb p (r .n) b) at (tested p (omega arith)));
     }
 
 pub range-test : {r : HeadRecord} → InRange r → recordInRange r ≡ true
 unfolding recordInRange phaseInRange marksInRange
 range-test {r} h =
     let heads : headsFit (r .n) (r .f) ≡ true = and-both (le-leb _ _ (h .heads .0)) (and-both (le-leb _ _ (h .heads .1)) (le-leb _ _ (h .heads .2))) in
-    let phase : (k : Kind) → phaseInRange (r .n) (phaseOf k r) ≡ true = λ k. and-both (sent-test (r .n) (phaseOf k r .choice) (phaseOf k r .sent) (h .phase k)) (implication-test _ _ (h .early k)) in
-    let marks : marksInRange r ≡ true = and-both (implication-test _ _ (h .marks .confirmed)) (and-both (implication-test _ _ (h .marks .turn)) (implication-test _ _ (h .marks .adjusting))) in
+    let phase : (k : Kind) → phaseInRange (r .n) (phaseOf k r) ≡ true = λ k. and-both (sent-test (r .n) (phaseOf k r .choice) (phaseOf k r .sent) (h .phase k)) (implies _ _ (h .early k)) in
+    let marks : marksInRange r ≡ true = and-both (implies _ _ (h .marks .confirmed)) (and-both (implies _ _ (h .marks .turn)) (implies _ _ (h .marks .adjusting))) in
     and-both heads (and-both (lt-ltb _ _ (h .own)) (and-both (lt-ltb _ _ (h .last)) (and-both (lt-ltb _ _ (h .adjustment)) (and-both (adjustment-test _ _ (h .unadjusted))
     (and-both (phase votes) (and-both (phase adjusts) (and-both marks (below-all 16 (keptTest r) (kept-test h)))))))))
 
@@ -185,14 +189,18 @@ range-test {r} h =
 pub median-in : (b : ℕ) (l : List ℕ) → 0 < b → Every (λ x. x < b) l → median l < b
 median-in b l h e = median-holds (λ x. x < b) l (λ _. h) e
 
-every-prepend : (P : ℕ → Type 0) (x : OptReading) (l : List ℕ) → P (readingOr0 x) → Every P l → Every P (prepend x l)
-every-prepend P NoReading l h e = e
-every-prepend P (SomeReading x) l h e = (h, e)
-
-vote-readings-below : {r : HeadRecord} → InRange r → (p : ℕ) → p ≤ r .n → Every (λ x. x < 2 ^ 28) (voteReadings r p)
+-- what holds of each vote reading that is held holds of every number that the median is taken of
+pub every-vote-reading : (P : ℕ → Type 0) (r : HeadRecord) (k : ℕ) → ((p : ℕ) → p < k → (x : Reading) → voteOf r p ≡ SomeReading x → P (x .0)) → Every P (voteReadings r k)
 unfolding voteReadings
-vote-readings-below h zero b = tt
-vote-readings-below {r} h (suc p) b = every-prepend (λ x. x < 2 ^ 28) (voteOf r p) (voteReadings r p) (h .kept p .below b .vote) (vote-readings-below h p (omega arith))
+every-vote-reading P r zero h = tt
+every-vote-reading P r (suc p) h = first (voteOf r p) (h p (omega arith)) (every-vote-reading P r p (λ q l. h q (omega arith)))
+  where
+    first : (x : OptReading) → ((y : Reading) → x ≡ SomeReading y → P (y .0)) → Every P (voteReadings r p) → Every P (prepend x (voteReadings r p))
+    first NoReading h' e = e
+    first (SomeReading x) h' e = (h' x refl, e)
+
+vote-readings-below : (r : HeadRecord) → ((p : ℕ) → KeptInRange (r .n) p (keptOf r p)) → Every (λ x. x < 2 ^ 28) (voteReadings r (r .n))
+vote-readings-below r h = every-vote-reading (λ x. x < 2 ^ 28) r (r .n) (λ p l x e. subst (λ (y : OptReading). readingOr0 y < 2 ^ 28) e (h p .below l .vote))
 
 -- AN EFFECT: first what is kept of the action
 
@@ -200,10 +208,27 @@ set-in-range : {n : ℕ} (l : List Sender) (p : ℕ) (s : Sender) → p < n → 
     → (q : ℕ) → KeptInRange n q (getD (set l p s) q noSender)
 set-in-range {n} l p s b h k = set-holds (KeptInRange n) l p s (record { below = λ _. h; above = λ a _. absurd (omega arith) }) k
 
+-- a reading that is dropped is in range
+kept-for-below : {n : ℕ} (v : OptNumber) (s : Sender) → SenderInRange n s → SenderInRange n (keptFor v s)
+kept-for-below v s h =
+    record {
+      start = h .start;
+      vote = cond-elim (λ (y : OptReading). readingOr0 y < 2 ^ 28) (sameNumber (s .candidate) v) (λ _. h .vote) (λ _. omega arith);
+      serial = for-both _ (h .serial votes) (h .serial adjusts);
+      latest = for-both _ (h .latest votes) (h .latest adjusts);
+    }
+
+dropped-in-range : {n : ℕ} (c : ℕ) (m : HeadRecord) → ((q : ℕ) → KeptInRange n q (keptOf m q)) → (q : ℕ) → KeptInRange n q (keptOf (dropOthers c m) q)
+dropped-in-range {n} c m k q =
+    subst (KeptInRange n q) (sym (kept-for-at c m q))
+    (record { below = λ b. kept-for-below (SomeNumber c) (keptOf m q) (k q .below b); above = λ a b. ap (keptFor (SomeNumber c)) (k q .above a b) })
+
 kept-after-in-range : {r : HeadRecord} (p : ℕ) (x : Frame) → InRange r → p < r .n → FrameInRange (r .n) x → SenderInRange (r .n) (keptAfter r p x)
 kept-after-in-range p NoFrame h b f = h .kept p .below b
 kept-after-in-range p Start h b f = let s = h .kept p .below b in record { start = h .last; vote = s .vote; serial = for-both _ (s .serial votes) (s .serial adjusts); latest = for-both _ (s .latest votes) (s .latest adjusts) }
-kept-after-in-range p (Vote j c x) h b f = let s = h .kept p .below b in record { start = s .start; vote = f .reading; serial = for-both _ (f .serial) (s .serial adjusts); latest = for-both _ (f .choice) (s .latest adjusts) }
+kept-after-in-range {r} p (Vote j c x) h b f =
+    let s = h .kept p .below b in
+    kept-for-below (candidateAfter c (r .vote .choice)) (keepVote (keptOf r p) j c x) (record { start = s .start; vote = f .reading; serial = for-both _ (f .serial) (s .serial adjusts); latest = for-both _ (f .choice) (s .latest adjusts) })
 kept-after-in-range p (Adjust j c x) h b f = let s = h .kept p .below b in record { start = s .start; vote = s .vote; serial = for-both _ (s .serial votes) (f .serial); latest = for-both _ (s .latest votes) (f .choice) }
 
 -- an action that is not closed finds the marks that its own asks for
@@ -220,6 +245,60 @@ prepared-marks r AdjustTurn o h = record { confirmed = h .confirmed; turn = h .t
 prepared-marks r (AdjustDelivered p k c x) o h = h
 prepared-marks r AdjustClose o h = record { confirmed = h .confirmed; turn = h .turn; adjusting = λ _. not-false (or-left (not (r .vote .closed)) _ o) }
 
+-- WHICH VOTE READINGS COUNT: the test of one sender, m being the candidate
+
+abbrev fitsFor : OptNumber → Sender → Bool
+fitsFor m k = isReading (k .vote) ⇒ sameNumber (k .candidate) m
+
+kept-for-counts : (v : OptNumber) (k : Sender) → fitsFor v (keptFor v k) ≡ true
+kept-for-counts v k =
+    cond-elim (λ (x : OptReading). (isReading x ⇒ sameNumber (k .candidate) v) ≡ true) (sameNumber (k .candidate) v)
+    (λ t. implies (isReading (k .vote)) _ (λ _. t)) (λ _. refl)
+
+-- a part of the senders that a change keeps counts as before
+counts-same : (r m : HeadRecord) → m .n ≡ r .n → m .own ≡ r .own → ((p : ℕ) → fitsFor (m .vote .choice) (keptOf m p) ≡ fitsFor (r .vote .choice) (keptOf r p)) → Counted r → Counted m
+unfolding readingCounts
+counts-same r m en eo same h p l = ap₂ (λ (i : ℕ) (b : Bool). eqb p i || b) eo (same p) ∙ h p (subst (λ (i : ℕ). p < i) en l)
+
+counted-prepared : (r : HeadRecord) (a : Action) → Counted r → namedIn votes (sendingOf r a) ≡ NoNumber → Counted (prepared r a)
+unfolding readingCounts
+counted-prepared r Look h e = h
+counted-prepared r StartSent h e = h
+counted-prepared r (StartDelivered p) h e = counts-same r (prepared r (StartDelivered p)) refl refl (λ q. column-kept (fitsFor (r .vote .choice)) r p Start q refl) h
+counted-prepared r StartConfirmed h e = h
+counted-prepared r VoteTurn h e = h
+counted-prepared r (VoteDelivered p k c x) h e = go (passedOver votes r p k) (outranks c (r .vote .choice)) refl e
+  where
+    held : OptNumber
+    held = r .vote .choice
+
+    go : (b o : Bool) → outranks c held ≡ o → namedIn votes (cond b nothing (cond o (voting c) nothing)) ≡ NoNumber
+        → (q : ℕ) → q < r .n → (eqb q (r .own) || fitsFor held (getD (cond b (r .senders) (set (r .senders) p (keptAfter r p (Vote k c x)))) q noSender)) ≡ true
+    go true o t u = h
+    go false true t u = none-is-some (sym u)
+    go false false t u =
+        set-holds (λ q z. q < r .n → (eqb q (r .own) || fitsFor held z) ≡ true) (r .senders) p _
+        (λ _. or-second (eqb p (r .own)) _ (subst (λ (b : Bool). fitsFor held (keptFor (cond b (SomeNumber c) held) (keepVote (keptOf r p) k c x)) ≡ true) (sym t) (kept-for-counts held (keepVote (keptOf r p) k c x)))) h
+counted-prepared r VoteClose h e = h
+counted-prepared r AdjustTurn h e = h
+counted-prepared r (AdjustDelivered p k c x) h e = counts-same r (prepared r (AdjustDelivered p k c x)) refl refl (λ q. column-kept (fitsFor (r .vote .choice)) r p (Adjust k c x) q refl) h
+counted-prepared r AdjustClose h e = h
+
+-- a vote makes them count, whatever was kept
+counted-send : (x : Sending) (m : HeadRecord) → (namedIn votes x ≡ NoNumber → Counted m) → Counted (send x m .after)
+unfolding readingCounts vote adjust
+counted-send nothing m h = h refl
+counted-send Effects.Sending.start m h = h refl
+counted-send (voting c) m h = λ p l.
+    cases (eqb p (m .own)) (λ t. or-first (eqb p (m .own)) _ t)
+    (λ t. or-second (eqb p (m .own)) _ (subst (λ (z : Sender). fitsFor (SomeNumber c) z ≡ true)
+    (sym (getD-set-other (dropOthers c m .senders) (m .own) p _ noSender (eqb-false p (m .own) t) ∙ kept-for-at c m p)) (kept-for-counts (SomeNumber c) (keptOf m p))))
+counted-send (adjusting c x) m h =
+    counts-same m (send (adjusting c x) m .after) refl refl (λ q. set-keeps (fitsFor (m .vote .choice)) (m .senders) (m .own) q _ refl) (h refl)
+
+counted-effect : (r : HeadRecord) (a : Action) → Counted r → Counted (send (sendingOf r a) (prepared r a) .after)
+counted-effect r a h = counted-send (sendingOf r a) (prepared r a) (counted-prepared r a h)
+
 -- one more frame for a choice that outranks the last
 chosen-in-range : (n c : ℕ) (m : OptNumber) (sent : ℕ) → c < n → outranks c m ≡ true → SentInRange n m sent → SentInRange n (SomeNumber c) (sent + 1)
 chosen-in-range n c NoNumber sent b o h = omega arith
@@ -231,9 +310,12 @@ module _ {r : HeadRecord} (a : Action) (h : InRange r) (i : ActionInRange (r .n)
       cond-elim (λ (l : List Sender). (q : ℕ) → KeptInRange (r .n) q (getD l q noSender)) (ignored r (deliveryIn a .sender) (deliveryIn a .frame)) (λ _. h .kept)
       (λ _. set-in-range (r .senders) (deliveryIn a .sender) _ (i .sender) (kept-after-in-range _ _ h (i .sender) (i .frame)) (h .kept))
 
-  prepared-in-range : InRange (prepared r a)
-  prepared-in-range =
-      record { heads = h .heads; own = h .own; last = h .last; adjustment = h .adjustment; unadjusted = h .unadjusted; phase = for-both _ (h .phase votes) (h .phase adjusts); early = for-both _ (λ u. or-second (eqb (number a) 6) _ (h .early votes u)) (λ u. or-second (eqb (number a) 9) _ (h .early adjusts u)); marks = prepared-marks r a o (h .marks); kept = prepared-kept }
+  prepared-early : (k : Kind) → phaseOf k (prepared r a) .early ≡ true → phaseOf k (prepared r a) .closed ≡ true
+  prepared-early = for-both _ (λ u. or-second (eqb (number a) 6) _ (h .early votes u)) (λ u. or-second (eqb (number a) 9) _ (h .early adjusts u))
+
+  prepared-in-range : Counted (prepared r a) → InRange (prepared r a)
+  prepared-in-range counted =
+      record { heads = h .heads; own = h .own; last = h .last; adjustment = h .adjustment; unadjusted = h .unadjusted; phase = for-both _ (h .phase votes) (h .phase adjusts); early = prepared-early; marks = prepared-marks r a o (h .marks); kept = prepared-kept; counted = counted }
 
   -- then what the head says
   named-below : {k : Kind} {c : ℕ} → Why k r a c → c < r .n
@@ -244,42 +326,40 @@ module _ {r : HeadRecord} (a : Action) (h : InRange r) (i : ActionInRange (r .n)
   allowed-in-range k {c} s = chosen-in-range (r .n) c (phaseOf k r .choice) (phaseOf k r .sent) (named-below (s .why)) (s .higher) (h .phase k)
 
   source-below : {x : Reading} → Source r a x → x .0 < 2 ^ 28
-  source-below (computed _ e) = subst (λ (y : Reading). y .0 < 2 ^ 28) (sym e) (median-in (2 ^ 28) _ (lit< tt) (vote-readings-below prepared-in-range (r .n) (omega arith)))
+  source-below (computed _ e) = subst (λ (y : Reading). y .0 < 2 ^ 28) (sym e) (median-in (2 ^ 28) _ (lit< tt) (vote-readings-below (prepared r a) prepared-kept))
   source-below (passed-on _ e) = subst (λ (y : OptReading). readingOr0 y < 2 ^ 28) e (i .frame .reading)
 
-  send-in-range : {x : Sending} → Allowed r a x → AnswerInRange (r .n) (send x (prepared r a))
+  send-in-range : {x : Sending} → Allowed r a x → Counted (send x (prepared r a) .after) → AnswerInRange (r .n) (send x (prepared r a))
   unfolding vote adjust
-  send-in-range sends-nothing = (prepared-in-range, omega arith)
-  send-in-range (sends-start e) = (prepared-in-range, omega arith)
-  send-in-range (sends-vote {c = c} s) =
-      let m = prepared-in-range in
+  send-in-range sends-nothing counted = (prepared-in-range counted, omega arith)
+  send-in-range (sends-start e) counted = (prepared-in-range counted, omega arith)
+  send-in-range (sends-vote {c = c} s) counted =
       let new = allowed-in-range votes s in
-      let own = m .kept (r .own) .below (h .own) in
-      let start = m .kept c .below (omega arith) .start in
+      let own = prepared-kept (r .own) .below (h .own) in
+      let start = prepared-kept c .below (omega arith) .start in
       let mine : SenderInRange (r .n) (withCandidate (withVoteReading (keptOf (prepared r a) (r .own)) (startOf (prepared r a) c)) c) =
       record { start = own .start; vote = start; serial = for-both _ (own .serial votes) (own .serial adjusts); latest = for-both _ (omega arith) (own .latest adjusts) } in
-      let kept = set-in-range (prepared r a .senders) (r .own) _ (h .own) mine (m .kept) in
-      (record { heads = m .heads; own = m .own; last = m .last; adjustment = m .adjustment; unadjusted = m .unadjusted; phase = for-both _ new (m .phase adjusts); early = for-both _ (m .early votes) (m .early adjusts); marks = m .marks; kept = kept }, omega arith)
-  send-in-range (sends-adjust {c = c} s t) =
-      let m = prepared-in-range in
+      let kept = set-in-range (dropOthers c (prepared r a) .senders) (r .own) _ (h .own) mine (dropped-in-range c (prepared r a) prepared-kept) in
+      (record { heads = h .heads; own = h .own; last = h .last; adjustment = h .adjustment; unadjusted = h .unadjusted; phase = for-both _ new (h .phase adjusts); early = for-both _ (prepared-early votes) (prepared-early adjusts); marks = prepared-marks r a o (h .marks); kept = kept; counted = counted }, omega arith)
+  send-in-range (sends-adjust {c = c} s t) counted =
       let new = allowed-in-range adjusts s in
       let below = source-below t in
-      let own = m .kept (r .own) .below (h .own) in
+      let own = prepared-kept (r .own) .below (h .own) in
       let mine : SenderInRange (r .n) (withAdjuster (keptOf (prepared r a) (r .own)) c) =
       record { start = own .start; vote = own .vote; serial = for-both _ (own .serial votes) (own .serial adjusts); latest = for-both _ (own .latest votes) (omega arith) } in
-      let kept = set-in-range (prepared r a .senders) (r .own) _ (h .own) mine (m .kept) in
-      (record { heads = m .heads; own = m .own; last = m .last; adjustment = below; unadjusted = λ e. none-is-some (sym e); phase = for-both _ (m .phase votes) new; early = for-both _ (m .early votes) (m .early adjusts); marks = m .marks; kept = kept }, omega arith)
+      let kept = set-in-range (prepared r a .senders) (r .own) _ (h .own) mine prepared-kept in
+      (record { heads = h .heads; own = h .own; last = h .last; adjustment = below; unadjusted = λ e. none-is-some (sym e); phase = for-both _ (h .phase votes) new; early = for-both _ (prepared-early votes) (prepared-early adjusts); marks = prepared-marks r a o (h .marks); kept = kept; counted = counted }, omega arith)
 
   pub effect-in-range : AnswerInRange (r .n) (effect r a)
-  effect-in-range = subst (AnswerInRange (r .n)) (sym (effect-split r a)) (send-in-range (allowed r a o))
+  effect-in-range = subst (AnswerInRange (r .n)) (sym (effect-split r a)) (send-in-range (allowed r a o) (counted-effect r a (h .counted)))
 
 -- A STEP
 
 -- the test at the end of a step closes a phase with its mark, and the adjust phase only after the vote phase
 concluded-in-range : {n : ℕ} (tested : Bool) (t : Stepped) → AnswerInRange n t → AnswerInRange n (concluded tested t)
-unfolding mayClose
+unfolding mayClose readingCounts
 concluded-in-range tested t (h, f) = (
-  record { heads = h .heads; own = h .own; last = h .last; adjustment = h .adjustment; unadjusted = h .unadjusted; phase = for-both _ (h .phase votes) (h .phase adjusts); early = for-both _ (with-mark (earlyNow votes tested (t .after)) (h .early votes)) (with-mark (earlyNow adjusts tested (t .after)) (h .early adjusts)); marks = record { confirmed = h .marks .confirmed; turn = h .marks .turn; adjusting = adjusting }; kept = h .kept },
+  record { heads = h .heads; own = h .own; last = h .last; adjustment = h .adjustment; unadjusted = h .unadjusted; phase = for-both _ (h .phase votes) (h .phase adjusts); early = for-both _ (with-mark (earlyNow votes tested (t .after)) (h .early votes)) (with-mark (earlyNow adjusts tested (t .after)) (h .early adjusts)); marks = record { confirmed = h .marks .confirmed; turn = h .marks .turn; adjusting = adjusting }; kept = h .kept; counted = h .counted },
   f,
 )
   where
@@ -307,8 +387,9 @@ taken-in-range : {n : ℕ} (r : HeadRecord) (a : Action) → ActionInRange n a �
 taken-in-range {n} r a = subst (DeliveryInRange n) (sym (taken-delivery (taken-as r a)))
 
 last-in-range : {r : HeadRecord} {x : Reading} → InRange r → x .0 < 2 ^ 28 → InRange (withLast r x)
+unfolding readingCounts
 last-in-range h b =
-    record { heads = h .heads; own = h .own; last = b; adjustment = h .adjustment; unadjusted = h .unadjusted; phase = for-both _ (h .phase votes) (h .phase adjusts); early = for-both _ (h .early votes) (h .early adjusts); marks = h .marks; kept = h .kept }
+    record { heads = h .heads; own = h .own; last = b; adjustment = h .adjustment; unadjusted = h .unadjusted; phase = for-both _ (h .phase votes) (h .phase adjusts); early = for-both _ (h .early votes) (h .early adjusts); marks = h .marks; kept = h .kept; counted = h .counted }
 
 pub take-in-range : {r : HeadRecord} (x : Reading) (sent : Bool) (a : Action) → InRange r → x .0 < 2 ^ 28 → ActionInRange (r .n) a → AnswerInRange (r .n) (takeAction r x sent a)
 unfolding takeAction
@@ -346,10 +427,12 @@ none-in-range n p b =
     record { below = λ l. subst (SenderInRange n) (sym (getD-replicate 16 p noSender noSender (omega arith))) (none (omega arith)); above = λ _ l. getD-replicate 16 p noSender noSender l }
 
 fresh-facts : (n f : ℕ) {q : ℕ} → headsFit n f ≡ true → q < n → InRange (fresh n f q)
-unfolding fresh
-fresh-facts n f e b =
+unfolding fresh readingCounts
+fresh-facts n f {q} e b =
     let heads = heads-fit n f e in
-    record { heads = heads; own = b; last = lit< tt; adjustment = lit< tt; unadjusted = λ _. refl; phase = for-both _ refl refl; early = for-both _ (λ t. t) (λ t. t); marks = record { confirmed = λ t. t; turn = λ t. t; adjusting = λ t. t }; kept = λ p. none-in-range n p (heads .1) }
+    let none : (p : ℕ) → p < n → (eqb p q || fitsFor NoNumber (getD (replicate 16 noSender) p noSender)) ≡ true =
+    λ p l. or-second (eqb p q) _ (ap (fitsFor NoNumber) (getD-replicate 16 p noSender noSender (omega arith))) in
+    record { heads = heads; own = b; last = lit< tt; adjustment = lit< tt; unadjusted = λ _. refl; phase = for-both _ refl refl; early = for-both _ (λ t. t) (λ t. t); marks = record { confirmed = λ t. t; turn = λ t. t; adjusting = λ t. t }; kept = λ p. none-in-range n p (heads .1); counted = none }
 
 pub fresh-in-range : (n f q : ℕ) → headsFit n f ≡ true → q < n → recordInRange (fresh n f q) ≡ true
 fresh-in-range n f q e b = range-test (fresh-facts n f e b)

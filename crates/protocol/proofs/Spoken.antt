@@ -13,8 +13,8 @@ use lib.Dec.{eqb}
 use lib.ListN.{length, getD, replicate}
 use borrow.Author.Tests.{eqb-true}
 use Rattle.protocol.specs.Types.{OptNumber, NoNumber, SomeNumber, Sender, HeadRecord, Setting, Frame}
-use Rattle.protocol.specs.Record.{noSender, keptOf, fresh}
-use Rattle.protocol.specs.Step.{sameNumber, allSpoken, isTested}
+use Rattle.protocol.specs.Record.{noSender, keptOf, sameNumber, fresh}
+use Rattle.protocol.specs.Step.{allSpoken, isTested}
 use Rattle.protocol.specs.Run.{Event, History, recordOf, frameSent, frameOf}
 use Rattle.protocol.specs.Premises.{took, isEarly}
 use Rattle.protocol.proofs.Tests.{absurd-bool, cases, or-cases, eqb-same, all-below}

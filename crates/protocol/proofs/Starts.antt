@@ -13,12 +13,12 @@ use Rattle.protocol.specs.Types.{SomeReading, NoNumber, SomeNumber, Send
 use Rattle.protocol.specs.Types.{Action, Look, StartSent, StartDelivered, StartConfirmed, VoteTurn, VoteDelivered, VoteClose, AdjustTurn, AdjustDelivered, AdjustClose}
 use Rattle.protocol.specs.Words.{hasSender, headsFit}
 use Rattle.protocol.specs.Record.{isReading, keptOf, startOf, fresh}
-use Rattle.protocol.specs.Step.{vote, adjust, startsHeld, mayLead, concluded, isTested}
+use Rattle.protocol.specs.Step.{withSenders, vote, adjust, startsHeld, mayLead, concluded, isTested}
 use Rattle.protocol.specs.Run.{Event, History, recordOf, frameSent, frameOf}
 use Rattle.protocol.specs.Premises.{takes, receives, took, received, lastStart}
 use Rattle.protocol.proofs.Tests.{absurd-bool, cases, and-left, and-right, and-both, or-second, or-right, eqb-same, count-mono}
 use Rattle.protocol.proofs.Moments.{Earlier, now, later}
-use Rattle.protocol.proofs.Effects.{votes, adjusts, deliveredBy, withSenders, set-keeps, ignored, keptAfter, column-kept, prepared, Sending, nothing, voting, adjusting, send, sendingOf, none-is-some, earlyNow}
+use Rattle.protocol.proofs.Effects.{votes, adjusts, deliveredBy, set-keeps, ignored, keptAfter, column-kept, prepared, Sending, nothing, voting, adjusting, send, sendingOf, none-is-some, earlyNow}
 use Rattle.protocol.proofs.Effects as Effects
 use Rattle.protocol.proofs.Valid.{baseOf, Taken, Valid, start, more, record-other, by-head, invariant, keptNext, kept-at, confirmed-took}
 use Rattle.protocol.proofs.Ranges.{run-in-range}

@@ -127,6 +127,17 @@ senderIsNone k =
     not (isReading (k .start)) && (not (isReading (k .vote)) && (not (isNumber (k .voted)) && (not (isNumber (k .adjusted))
     && (not (isNumber (k .candidate)) && not (isNumber (k .adjuster))))))
 
+-- both are numbers, and the same one
+abbrev pub sameNumber : OptNumber → OptNumber → Bool
+sameNumber NoNumber m = false
+sameNumber (SomeNumber c) NoNumber = false
+sameNumber (SomeNumber c) (SomeNumber v) = eqb c v
+
+-- document 02, No. 5: "A record that keeps another sender's vote reading without that sender's latest vote naming the candidate is
+-- outside its ranges"
+unfoldable pub readingCounts : HeadRecord → ℕ → Bool
+readingCounts r p = eqb p (r .own) || (isReading (voteOf r p) ⇒ sameNumber (keptOf r p .candidate) (r .vote .choice))
+
 -- "votes sent 0 exactly without a candidate v, else 1 to n − v, and adjusts likewise with the adjuster"; both below n
 abbrev pub sentInRange : ℕ → OptNumber → ℕ → Bool
 sentInRange n NoNumber sent = eqb sent 0
@@ -146,4 +157,4 @@ unfoldable pub recordInRange : HeadRecord → Bool
 recordInRange r =
     headsFit (r .n) (r .f) && (ltb (r .own) (r .n) && (isTime (r .last .0) && (isTime (r .adjustment .0)
     && ((isNumber (r .adjust .choice) || eqb (r .adjustment .0) 0) && (phaseInRange (r .n) (r .vote) && (phaseInRange (r .n) (r .adjust)
-    && (marksInRange r && allBelow 16 (λ p. cond (ltb p (r .n)) (senderInRange (r .n) (keptOf r p)) (senderIsNone (keptOf r p))))))))))
+    && (marksInRange r && allBelow 16 (λ p. cond (ltb p (r .n)) (senderInRange (r .n) (keptOf r p) && readingCounts r p) (senderIsNone (keptOf r p))))))))))

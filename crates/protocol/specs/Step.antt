@@ -1,7 +1,7 @@
 -- Document 01, "Actions and steps of one head h": the ten actions, when each is closed, what each does, and the step;
--- document 02, No. 4, "Closing when all have spoken".
+-- document 02, No. 4, "Closing when all have spoken", and No. 5, "Readings of another candidate".
 use mathlib.Core.Bool.{Bool, true, false, cond, not, _&&_, _||_}
-use mathlib.Core.List.{List, [], _∷_}
+use mathlib.Core.List.{List, [], _∷_, map}
 use Prim.Native.Nat.{ℕ, zero, suc, _+_, _/_, _%_}
 use lib.Dec.{ltb, leb, eqb}
 use lib.ListN.{length, getD, set}
@@ -10,7 +10,7 @@ use Rattle.protocol.specs.Types.{Reading, OptReading, NoReading, SomeRea
 use Rattle.protocol.specs.Types.{Accepted, Refused, Stepped, Frame, NoFrame, Start, Vote, Adjust}
 use Rattle.protocol.specs.Types.{Action, Look, StartSent, StartDelivered, StartConfirmed, VoteTurn, VoteDelivered, VoteClose, AdjustTurn, AdjustDelivered, AdjustClose}
 use Rattle.protocol.specs.Words.{isTime, hasSerial, zeroWhereUnused}
-use Rattle.protocol.specs.Record.{isReading, isNumber, reading, keptOf, startOf, voteOf, Kind, votes, adjusts, phaseOf, latestOf, recordInRange}
+use Rattle.protocol.specs.Record.{isReading, isNumber, reading, keptOf, startOf, voteOf, Kind, votes, adjusts, phaseOf, latestOf, sameNumber, recordInRange}
 use Rattle.protocol.specs.Median.{median}
 
 -- a phase, what is kept by a sender, and a record, each with one thing changed
@@ -71,6 +71,9 @@ withPhase adjusts r p = withAdjust r p (r .adjustment)
 abbrev pub withSender : HeadRecord → ℕ → Sender → HeadRecord
 withSender r p k = record { n = r .n; f = r .f; own = r .own; last = r .last; started = r .started; confirmed = r .confirmed; vote = r .vote; adjust = r .adjust; adjustment = r .adjustment; senders = set (r .senders) p k }
 
+abbrev pub withSenders : HeadRecord → List Sender → HeadRecord
+withSenders r l = record { n = r .n; f = r .f; own = r .own; last = r .last; started = r .started; confirmed = r .confirmed; vote = r .vote; adjust = r .adjust; adjustment = r .adjustment; senders = l }
+
 -- "back come 0 and the frame to send, if any"; a refusal leaves the record
 abbrev pub accepted : HeadRecord → Frame → Stepped
 accepted r x = record { verdict = Accepted; after = r; frame = x }
@@ -81,11 +84,19 @@ silent r = accepted r NoFrame
 abbrev pub refused : HeadRecord → Cause → Stepped
 refused r c = record { verdict = Refused c; after = r; frame = NoFrame }
 
+-- document 02, No. 5: "only readings voted for the head's present candidate count": what is kept of a sender while v is the candidate
+abbrev pub keptFor : OptNumber → Sender → Sender
+keptFor v k = withVoteReading k (cond (sameNumber (k .candidate) v) (k .vote) NoReading)
+
+-- "changing candidate drops the others"; the head's own reading is then that of its own vote
+abbrev pub dropOthers : ℕ → HeadRecord → HeadRecord
+dropOthers c r = withSenders r (map (keptFor (SomeNumber c)) (r .senders))
+
 -- "A vote carries the candidate and h's own start reading of it, or the mark "none"; it is also h's own vote reading";
 -- "Serials count a head's votes from 0"; document 02, No. 4: it is h's own latest vote
 unfoldable pub vote : ℕ → HeadRecord → Stepped
 vote c r =
-    accepted (withVote (withSender r (r .own) (withCandidate (withVoteReading (keptOf r (r .own)) (startOf r c)) c)) (choose c (r .vote)))
+    accepted (withVote (withSender (dropOthers c r) (r .own) (withCandidate (withVoteReading (keptOf r (r .own)) (startOf r c)) c)) (choose c (r .vote)))
     (Vote (r .vote .sent) c (startOf r c))
 
 -- an adjust carries adjuster and adjustment; document 02, No. 4: it is h's own latest adjust
@@ -136,6 +147,10 @@ abbrev pub outranks : ℕ → OptNumber → Bool
 outranks c NoNumber = true
 outranks c (SomeNumber v) = ltb c v
 
+-- the candidate once a vote for c is taken
+abbrev pub candidateAfter : ℕ → OptNumber → OptNumber
+candidateAfter c v = cond (outranks c v) (SomeNumber c) v
+
 -- 5, and 8 "as 5": "No effect after the vote close or if the serial isn't above the last taken from that sender.
 -- Otherwise" the record keeps what it takes of the frame, and a choice that outranks its own is adopted and sent on
 unfoldable pub delivered : Phase → OptNumber → ℕ → ℕ → HeadRecord → HeadRecord → (HeadRecord → Stepped) → Stepped
@@ -154,8 +169,11 @@ effect r (StartDelivered p) = cond (r .adjust .closed) (silent r) (lead (withSen
 -- "3 own start confirmed", "4 vote turn"
 effect r StartConfirmed = silent (withMarks r (r .started) true)
 effect r VoteTurn = lead (withVote r (takeTurn (r .vote)))
--- "5 vote delivered .. the carried reading (or none) becomes the sender's vote reading"; document 02, No. 4: it is the sender's latest vote
-effect r (VoteDelivered p k c x) = delivered (r .vote) (keptOf r p .voted) k c r (withSender r p (keepVote (keptOf r p) k c x)) (vote c)
+-- "5 vote delivered .. the carried reading (or none) becomes the sender's vote reading"; document 02, No. 4: it is the sender's latest vote;
+-- No. 5: "a vote taken that names another candidate leaves its sender with none"
+effect r (VoteDelivered p k c x) =
+    delivered (r .vote) (keptOf r p .voted) k c r
+    (withSender r p (keptFor (candidateAfter c (r .vote .choice)) (keepVote (keptOf r p) k c x))) (vote c)
 -- "6 vote close", "7 adjust turn"
 effect r VoteClose = silent (withVote r (close (r .vote)))
 effect r AdjustTurn = propose (withAdjust r (takeTurn (r .adjust)) (r .adjustment))
@@ -225,11 +243,6 @@ closedBy a m =
 -- CLOSING WHEN ALL HAVE SPOKEN (document 02, No. 4)
 
 -- "its own and every other head's latest vote name its candidate, and the adjust phase likewise with the adjuster"; ""all" means all n"
-abbrev pub sameNumber : OptNumber → OptNumber → Bool
-sameNumber NoNumber m = false
-sameNumber (SomeNumber c) NoNumber = false
-sameNumber (SomeNumber c) (SomeNumber v) = eqb c v
-
 abbrev pub allSpoken : Kind → HeadRecord → Bool
 allSpoken k r = allBelow (r .n) (λ q. sameNumber (latestOf k (keptOf r q)) (phaseOf k r .choice))
 

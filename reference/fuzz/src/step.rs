@@ -1,7 +1,7 @@
 //! One head: three bytes for n, f and its number, then twelve for each action, for a
 //! change of the record's memory, or for a counter.
 
-use reference::board::{all_spoken, edges, same_counter, Both, InputNumbers};
+use reference::board::{all_spoken, edges, same_counter, with_vote, Both, InputNumbers};
 
 /// A byte as a number: mostly below the limit, else any byte, or beyond a byte.
 fn number(byte: u8, limit: u32) -> u32 {
@@ -47,12 +47,17 @@ fn input_numbers(chunk: &[u8], n: u32, last: u32) -> InputNumbers {
     }
 }
 
-/// One number of the record's memory is changed, or all heads have spoken.
+/// One number of the record's memory is changed, or a sender's vote reading together
+/// with its latest vote, or all heads have spoken.
 fn damage(both: &Both, chunk: &[u8]) -> Both {
     let mut head = both.head;
     match chunk[0] & 0x60 {
         0x20 => return both.damaged(all_spoken(&head, 5)),
         0x40 => return both.damaged(all_spoken(&head, 8)),
+        0x60 => {
+            let (sender, named) = (chunk[1] as usize % 16, number(chunk[2], 17));
+            return both.damaged(with_vote(&head, sender, word(&chunk[8..]) >> 4, named));
+        }
         _ => {}
     }
     let index = chunk[1] as usize % head.len();

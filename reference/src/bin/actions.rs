@@ -1,18 +1,22 @@
 //! `actions SEED COUNT`: takes random sequences of actions, at least COUNT of them,
 //! at one head of the proved static library and of the reference, and compares all
 //! that can be seen of both after each. Now and then the record's memory is damaged
-//! first, or made one to which all have spoken. Stops at the first difference; fails
-//! too if 1,000,000 actions or more never had one of the early closes, a spent action,
-//! or a refusal for one of the memory's numbers. Built with the feature `board`.
+//! first, or made one to which all have spoken, one with a vote reading beside any
+//! latest vote, or one whose latest votes name a higher rank than its candidate. Stops
+//! at the first difference; fails too if 1,000,000 actions or more never had one of the
+//! early closes, a spent action, one of the ways with readings of another candidate, or
+//! a refusal for one of the memory's numbers. Built with the feature `board`.
 
 use std::collections::BTreeMap;
 use std::process::ExitCode;
 
 use reference::ask::seed_and_count;
-use reference::board::{all_spoken, edges, same_counter, Both, InputNumbers, NUMBERS};
+use reference::board::{all_spoken, edges, same_counter, with_vote};
+use reference::board::{Both, InputNumbers, NUMBERS};
 use reference::random::Random;
 use reference::record::Record;
 use reference::step::is_spent;
+use reference::words::MAX_HEADS;
 
 /// From this many actions on, all that can be met must have been.
 const ENOUGH: u64 = 1_000_000;
@@ -42,6 +46,113 @@ struct Tally {
     spent: [u64; 10],
     /// Early closes of both by the same action.
     at_once: u64,
+    candidates: Candidates,
+}
+
+/// Actions by what they did with readings of another candidate.
+#[derive(Default)]
+struct Candidates {
+    /// Changes of candidate, those that dropped a reading, and those to a head that
+    /// another sender's latest vote already named.
+    changed: u64,
+    dropped: u64,
+    named_before: u64,
+    /// Votes taken that named another candidate, and those of them whose sender had a
+    /// reading.
+    others: u64,
+    others_held: u64,
+    /// Records refused for a reading of another candidate alone: with no candidate,
+    /// with no latest vote, and with one that names another.
+    refused: [u64; 3],
+    /// Records taken whose own reading is beside such a latest vote of their own.
+    own: u64,
+}
+
+impl Candidates {
+    fn accepted(&mut self, numbers: &InputNumbers, before: &Record, after: &Record) {
+        let sender = numbers[2] as usize;
+        let own = before.own as usize;
+        if !before.names_candidate(own) && before.kept[own].vote_reading.is_some() {
+            self.own += 1;
+        }
+        let [old, new] = [before, after].map(|r| r.kept[sender]);
+        let is_taken = numbers[0] == 5 && old.vote_serial != new.vote_serial;
+        if is_taken && !after.names_candidate(sender) {
+            self.others += 1;
+            self.others_held += u64::from(old.vote_reading.is_some());
+        }
+        if before.candidate.is_none() || before.candidate == after.candidate {
+            return;
+        }
+        let third = |&p: &usize| p != own && p != sender;
+        let is_lost = |p: usize| {
+            let [old, new] = [before, after].map(|r| r.kept[p].vote_reading);
+            old.is_some() && new.is_none()
+        };
+        let is_named = |p: usize| before.kept[p].latest_vote == after.candidate;
+        self.changed += 1;
+        self.dropped += u64::from((0..MAX_HEADS).filter(third).any(is_lost));
+        self.named_before += u64::from((0..MAX_HEADS).filter(third).any(is_named));
+    }
+
+    /// A record that is refused, if without its readings of another candidate it would
+    /// be in its ranges.
+    fn refused(&mut self, record: &Record) {
+        let mut rest = record.clone();
+        let mut why = None;
+        for sender in (0..MAX_HEADS).filter(|&p| p != record.own as usize) {
+            let kept = &mut rest.kept[sender];
+            if kept.vote_reading.is_some() && !record.names_candidate(sender) {
+                kept.vote_reading = None;
+                why = Some(match (record.candidate, kept.latest_vote) {
+                    (None, _) => 0,
+                    (_, None) => 1,
+                    _ => 2,
+                });
+            }
+        }
+        if let Some(why) = why.filter(|_| rest.in_ranges()) {
+            self.refused[why] += 1;
+        }
+    }
+
+    fn missing(&self) -> Vec<String> {
+        [
+            (self.dropped, "a reading dropped"),
+            (self.named_before, "a candidate named before"),
+            (self.others, "another candidate"),
+            (self.others_held, "another candidate, with a reading before"),
+            (self.refused[0], "refusal for a reading without a candidate"),
+            (
+                self.refused[1],
+                "refusal for a reading without a latest vote",
+            ),
+            (
+                self.refused[2],
+                "refusal for a reading of another candidate",
+            ),
+            (self.own, "own reading beside another latest vote"),
+        ]
+        .into_iter()
+        .filter(|(met, _)| *met == 0)
+        .map(|(_, name)| name.into())
+        .collect()
+    }
+
+    fn print(&self) {
+        println!(
+            "candidates changed: {}, of them {} with a reading dropped, {} to one that a latest vote named before",
+            self.changed, self.dropped, self.named_before
+        );
+        println!(
+            "votes taken that name another candidate: {}, of them {} with a reading before",
+            self.others, self.others_held
+        );
+        println!(
+            "records refused for a reading of another candidate alone: {} without a candidate, {} without a latest vote, {} with one for another; own ones taken: {}",
+            self.refused[0], self.refused[1], self.refused[2], self.own
+        );
+    }
 }
 
 impl Tally {
@@ -55,7 +166,7 @@ impl Tally {
         self.at_once += u64::from(votes && adjusts);
     }
 
-    /// What was never met of early closes and damage.
+    /// What was never met of early closes, candidates and damage.
     fn missing(&self) -> Vec<String> {
         let name = |what: &str, number: usize| format!("{what} {number}");
         let refused = |&index: &usize| self.alone.get(&index).is_none_or(|p| p[0] == 0);
@@ -67,6 +178,7 @@ impl Tally {
             .chain(adjusts.map(|a| name("early adjust close by", a)))
             .chain(spent.map(|a| name("spent", a)))
             .chain((self.at_once == 0).then(|| "both at once".into()))
+            .chain(self.candidates.missing())
             .chain(
                 (0..NUMBERS)
                     .filter(refused)
@@ -167,6 +279,75 @@ fn speak(random: &mut Random, record: &Record) -> InputNumbers {
     ]
 }
 
+/// A new vote that names any head, mostly one of higher rank than the candidate, and
+/// often one that latest votes name already.
+fn lead(random: &mut Random, record: &Record) -> InputNumbers {
+    let others: Vec<u32> = (0..record.n).filter(|&q| q != record.own).collect();
+    let sender = random.pick(&others);
+    let kept = &record.kept[sender as usize];
+    let below = record.candidate.unwrap_or(record.n).max(1);
+    let latest = record.kept.iter().filter_map(|kept| kept.latest_vote);
+    let named: Vec<u32> = latest.filter(|&named| named < below).collect();
+    let carried = if !named.is_empty() && random.chance(1, 2) {
+        random.pick(&named)
+    } else {
+        let limit = random.pick(&[record.n, below, below, below]);
+        random.below(limit.into()) as u32
+    };
+    let none = random.chance(1, 5);
+    let reading = if none { 0 } else { random.below(1 << 28) };
+    [
+        5,
+        record.last_reading.0,
+        sender,
+        kept.vote_serial.map_or(0, |last| last + 1),
+        carried,
+        reading as u32,
+        none.into(),
+    ]
+}
+
+/// A copy of the head with a vote reading, mostly another sender's, beside a latest
+/// vote that is none, the candidate's or any other; at times without a candidate.
+fn voted(random: &mut Random, both: &Both, record: &Record) -> Both {
+    let mut head = both.head;
+    let any = random.below(record.n.into()) as u32;
+    let sender = random.pick(&[any, any, record.own]) as usize;
+    if random.chance(1, 4) {
+        // No candidate, no mark for it and no votes sent.
+        head[1] &= !64;
+        head[2] = 0;
+        head[3] = 0;
+        if random.chance(1, 2) {
+            head[32..48].fill(0);
+        }
+    }
+    let reading = 1 + random.below(1 << 28) as u32;
+    let other = 1 + random.below(record.n.into()) as u32;
+    let named = random.pick(&[0, head[2], other, other]);
+    both.damaged(with_vote(&head, sender, reading, named))
+}
+
+/// A copy of the head, its votes open, in which the latest votes of some others name a
+/// head of higher rank than the candidate; their readings do not count.
+fn named_ahead(random: &mut Random, both: &Both, record: &Record) -> Both {
+    let mut head = both.head;
+    let below = record.candidate.unwrap_or(record.n);
+    if below > 0 {
+        let ahead = random.below(below.into()) as u32;
+        for sender in (0..record.n).filter(|&q| q != record.own) {
+            if random.chance(1, 2) {
+                head = with_vote(&head, sender as usize, 0, 1 + ahead);
+            }
+        }
+        // Vote close, adjust turn and adjust close.
+        head[1] &= !(8 | 16 | 32);
+        head[10] = 0;
+        head[11] = 0;
+    }
+    both.damaged(head)
+}
+
 /// A copy of the head to which all have spoken; at times its phases are opened again.
 /// It has sent and confirmed its start, and taken its turn, as may be.
 fn spoken(random: &mut Random, both: &Both) -> Both {
@@ -196,8 +377,11 @@ fn spoken(random: &mut Random, both: &Both) -> Both {
 /// A copy of the head with one to three numbers of its memory changed, and the
 /// index if it is one.
 fn damage(random: &mut Random, both: &Both, record: &Record) -> (Both, Option<usize>) {
-    if random.chance(1, 4) {
-        return (spoken(random, both), None);
+    match random.below(8) {
+        0 | 1 => return (spoken(random, both), None),
+        2 => return (voted(random, both, record), None),
+        3 => return (named_ahead(random, both, record), None),
+        _ => {}
     }
     let mut head = both.head;
     let changes = random.pick(&[1, 1, 1, 2, 3]);
@@ -214,12 +398,17 @@ fn damage(random: &mut Random, both: &Both, record: &Record) -> (Both, Option<us
     (both.damaged(head), (changes == 1).then_some(index))
 }
 
-/// One action at both, with what it meets of early closes.
+/// One action at both, with what it meets of early closes and candidates.
 fn act(both: &mut Both, numbers: &InputNumbers, tally: &mut Tally) -> Result<u32, String> {
     let before = both.record.clone();
     let cause = both.act(numbers)?;
-    if let (0, Some(before), Some(after)) = (cause, &before, &both.record) {
-        tally.early(numbers[0] as usize, before, after);
+    match (cause, &before, &both.record) {
+        (0, Some(before), Some(after)) => {
+            tally.early(numbers[0] as usize, before, after);
+            tally.candidates.accepted(numbers, before, after);
+        }
+        (10, Some(before), _) => tally.candidates.refused(before),
+        _ => {}
     }
     Ok(cause)
 }
@@ -234,7 +423,12 @@ fn act_damaged(
 ) -> Result<u32, String> {
     let (mut other, index) = damage(random, both, record);
     let changed = other.head != both.head;
-    let numbers = draw(random, other.record.as_ref().unwrap_or(record));
+    let drawn = other.record.as_ref().unwrap_or(record);
+    let numbers = if other.in_ranges() && random.chance(1, 3) {
+        lead(random, drawn)
+    } else {
+        draw(random, drawn)
+    };
     let cause = act(&mut other, &numbers, tally)?;
     if changed {
         let taken = cause != 10;
@@ -277,6 +471,8 @@ fn sequence(random: &mut Random, tally: &mut Tally) -> Result<(), String> {
             act_damaged(random, &mut both, &record, tally)?
         } else if talks && random.chance(2, 3) {
             act(&mut both, &speak(random, &record), tally)?
+        } else if random.chance(1, 6) {
+            act(&mut both, &lead(random, &record), tally)?
         } else {
             act(&mut both, &draw(random, &record), tally)?
         };
@@ -328,6 +524,7 @@ fn main() -> ExitCode {
         tally.adjusts, tally.at_once
     );
     println!("spent: {:?}", tally.spent);
+    tally.candidates.print();
     let missing = tally.missing();
     if tally.actions >= ENOUGH && !missing.is_empty() {
         println!("never met: {}", missing.join(", "));

@@ -2,19 +2,22 @@
 //! program `corpus`, and compares what it prints with the fast form here; one sheet
 //! in twenty also goes through the plain form and the counters of [`reference::cover`].
 //! Stops at the first difference and saves that sheet as `difference.sheet`. Fails too
-//! if 10,000 sheets or more leave out an answer that the program can give.
+//! if 10,000 sheets or more leave out an answer that the program can give, or a way in
+//! which a head deals with readings of another candidate.
 
-use std::collections::BTreeMap;
+use std::collections::{BTreeMap, BTreeSet};
 use std::io::Error;
 use std::process::ExitCode;
 
 use reference::ask::{arguments, ask};
+use reference::candidates::{Watch, WAYS};
 use reference::cover::{Cover, ALLOWED_COUNTS, BRANCHES};
 use reference::generate::{generate, Generated};
+use reference::program::{read_words, MAX_BYTES};
 
 const BATCH: u64 = 1_000;
 const PLAIN_EVERY: u64 = 20;
-/// From this many sheets on, each answer in `ANSWERS` must have been seen.
+/// From this many sheets on, each of `ANSWERS` and `WAYS` must have been seen.
 const ENOUGH: u64 = 10_000;
 /// All answers but cause 5: the program's buffer has room for sixteen heads.
 const ANSWERS: [&str; 17] = [
@@ -45,6 +48,8 @@ struct Tally {
     full: u64,
     classes: BTreeMap<String, u64>,
     answers: BTreeMap<String, u64>,
+    /// By what a head does with readings of another candidate, the sheets.
+    ways: BTreeMap<&'static str, u64>,
     plain: Cover,
 }
 
@@ -52,17 +57,24 @@ impl Tally {
     fn count(&mut self, made: &Generated, text: &str) {
         self.sheets += 1;
         self.bytes += made.bytes.len() as u64;
-        self.full += u64::from(made.bytes.len() == reference::program::MAX_BYTES);
+        self.full += u64::from(made.bytes.len() == MAX_BYTES);
         *self.classes.entry(format!("{:?}", made.aim)).or_default() += 1;
         let last = text.lines().last().unwrap_or_default();
         let answer = last.split(' ').take(2).collect::<Vec<_>>().join(" ");
         *self.answers.entry(answer).or_default() += 1;
+        if let Ok(words) = read_words(&made.bytes) {
+            let ways: BTreeSet<&str> = Watch::over(&words).ways.into_iter().collect();
+            for way in ways {
+                *self.ways.entry(way).or_default() += 1;
+            }
+        }
     }
 
-    /// The answers that no sheet got.
+    /// The answers that no sheet got, and the ways that none took.
     fn missing(&self) -> Vec<&str> {
-        let mut names = ANSWERS.to_vec();
-        names.retain(|name| !self.answers.contains_key(*name));
+        let is_seen = |name: &str| self.answers.contains_key(name) || self.ways.contains_key(name);
+        let mut names = [&ANSWERS[..], &WAYS].concat();
+        names.retain(|name| !is_seen(name));
         names
     }
 
@@ -75,6 +87,7 @@ impl Tally {
         );
         println!("made for: {:?}", self.classes);
         println!("answers: {:?}", self.answers);
+        println!("readings of another candidate, by sheets: {:?}", self.ways);
         println!(
             "plain form: {} of {} branches, {} of {ALLOWED_COUNTS} pairs n, f with all premises kept, {} sheets with the third point checked",
             plain.branches.len(),

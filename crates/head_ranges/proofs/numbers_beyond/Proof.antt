@@ -1,4 +1,4 @@
-use Rattle.head_ranges.proofs.Senders.{counted}
+use Rattle.head_ranges.proofs.Senders.{six-counted}
 use borrow.Author.Needs.{needs}
 use Rattle.head_ranges.proofs.numbers_beyond.Statement.{statement}
 use Rattle.head_ranges.proofs.numbers_beyond.Tie as tie
@@ -8,6 +8,9 @@ element-copy-out-greatest c = search needs
 
 greatest-requires : tie.Need-greatest-requires
 greatest-requires c κs = search needs
+
+greatest-vote-requires : tie.Need-greatest-vote-requires
+greatest-vote-requires c κs = search needs
 
 element-copy-out-greatest-2 : tie.Need-element-copy-out-greatest-2
 element-copy-out-greatest-2 c = search needs
@@ -113,8 +116,9 @@ add-result-5 c = search needs
 
 returns : tie.Need-returns
 returns c =
-    counted _ _ _ _ _ _ _ _ _ _ _
-    (c .before .before .before .before .before .before .before .before .before .before .before .before .before .before .before .before .before .greatest .ensures)
+    six-counted _ _ _ _ _ _ _ _ _ _ _ _
+    (c .before .before .before .before .before .before .before .before .before .before .before .before .before .before .before .before .before .before .greatest .ensures)
+    (c .before .before .before .before .before .before .before .before .before .before .before .before .before .before .before .before .before .greatest-vote .ensures)
     (c .before .before .before .before .before .before .before .before .before .before .before .before .before .before .before .greatest2 .ensures)
     (c .before .before .before .before .before .before .before .before .before .before .before .before .greatest3 .ensures)
     (c .before .before .before .before .before .before .before .before .before .before .one-if-less .ensures .0)
@@ -130,6 +134,7 @@ numbers-beyond-spec =
     (tie.spec
     element-copy-out-greatest
     greatest-requires
+    greatest-vote-requires
     element-copy-out-greatest-2
     greatest-requires-2
     element-copy-out-greatest-3
