@@ -43,8 +43,8 @@ drafts() {
     "$out/draft" "$@" | target/bin/replay | diff "$out/draft.expected" -
 }
 
-build board_c two_boards edges
-prints two_boards edges
+build board_c two_boards edges other_candidate
+prints two_boards edges other_candidate
 build sheet_c one_sheet recorder draft
 prints one_sheet
 
