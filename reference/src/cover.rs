@@ -3,7 +3,7 @@
 
 use std::collections::{BTreeMap, BTreeSet};
 
-use crate::candidates::Watch;
+use crate::candidates::{Watch, WAYS};
 use crate::claim;
 use crate::fast;
 use crate::generate::{generate, Aim, Generated};
@@ -45,12 +45,12 @@ pub const BRANCHES: &[&str] = &[
     "5 no effect, same serial",
     "5 no effect, lower serial",
     "5 no effect, serial 0 after a higher one",
-    "5 adopts, readings of the former candidate dropped",
-    "5 adopts, its sender's former reading replaced",
-    "5 names another candidate, its reading left out",
-    "5 names another candidate, with none",
-    "5 names the candidate after its sender's reading was dropped",
-    "5 names the candidate after its sender named another",
+    WAYS[0],
+    WAYS[1],
+    WAYS[2],
+    WAYS[3],
+    WAYS[4],
+    WAYS[5],
     "5 closes the vote early",
     "5 closes both phases early",
     "vote carries a reading",
@@ -68,9 +68,9 @@ pub const BRANCHES: &[&str] = &[
     "7 no vote reading",
     "7 median of an even count",
     "7 median of an odd count above 1",
-    "7 readings left out",
-    "7 readings left out, the median another with them",
-    "7 no vote reading but those left out",
+    WAYS[6],
+    WAYS[7],
+    WAYS[8],
     "7 after an early vote close",
     "7 spent",
     "7 spent, the turn already taken",

@@ -16,7 +16,7 @@ use Rattle.protocol.specs.Types.{Action, Look, StartSent, StartDelivered
 use Rattle.protocol.specs.Words.{hasSender}
 use Rattle.protocol.specs.Record.{isNumber, reading, noSender, keptOf, startOf, voteOf, sameNumber}
 use Rattle.protocol.specs.Median.{median}
-use Rattle.protocol.specs.Step.{choose, earlyIf, withStart, withVoteReading, withLast, withSenders, keepVote, keepAdjust, keptFor, dropOthers, accepted, silent, vote, adjust, mayLead, lead, voteReadings, mayAdjust, propose, isPassedOver, outranks, candidateAfter, delivered, effect, isClosed, allSpoken, isUnderWay, mayClose, closeEarly, concluded, isTested, act, takenAs}
+use Rattle.protocol.specs.Step.{choose, earlyIf, withStart, withVoteReading, withCandidate, withLast, withSenders, keepVote, keepAdjust, keptFor, dropOthers, accepted, silent, vote, adjust, mayLead, lead, voteReadings, mayAdjust, propose, isPassedOver, outranks, candidateAfter, delivered, effect, isClosed, allSpoken, isUnderWay, mayClose, closeEarly, concluded, isTested, act, takenAs}
 use Rattle.protocol.specs.Run.{isDeliveredBy, carriedReading}
 pub use Rattle.protocol.specs.Record.{Kind, votes, adjusts, phaseOf, latestOf}
 pub use Rattle.protocol.specs.Step.{number}
@@ -710,15 +710,18 @@ own-unsent start m e = refl
 own-unsent (voting c) m e = none-is-some (sym e)
 own-unsent (adjusting c x) m e = set-keeps (λ z. z .vote) (m .senders) (m .own) (m .own) _ refl
 
+-- what a head keeps of itself after its vote
+pub own-voted : (c : ℕ) (m : HeadRecord) → m .own < length (m .senders) → keptOf (vote c m .after) (m .own) ≡ withCandidate (withVoteReading (keptOf m (m .own)) (startOf m c)) c
+unfolding vote
+own-voted c m b = getD-set-same (dropOthers c m .senders) (m .own) _ noSender (rw (length-map (m .senders) (keptFor (SomeNumber c))) b)
+
 pub own-sent : (x : Sending) (m : HeadRecord) (c : ℕ) → m .own < length (m .senders) → namedIn votes x ≡ SomeNumber c → voteOf (send x m .after) (m .own) ≡ startOf (send x m .after) c
 unfolding vote
 own-sent nothing m c b e = none-is-some e
 own-sent start m c b e = none-is-some e
 own-sent (voting w) m c b e =
     subst (λ (z : ℕ). voteOf (vote w m .after) (m .own) ≡ startOf (vote w m .after) z) (same-number e)
-    (let kept = kept-for-keeps (λ k. k .start) (λ k x. refl) w m in
-    ap (λ (z : Sender). z .vote) (getD-set-same (dropOthers w m .senders) (m .own) _ noSender (rw (length-map (m .senders) (keptFor (SomeNumber w))) b))
-    ∙ sym (set-keeps (λ z. z .start) (dropOthers w m .senders) (m .own) w _ (sym (kept (m .own))) ∙ kept w))
+    (ap (λ (z : Sender). z .vote) (own-voted w m b) ∙ sym (send-keeps (λ k. k .start) (λ k y d a. refl) (voting w) m w))
 own-sent (adjusting w x) m c b e = none-is-some e
 
 -- a start is sent once

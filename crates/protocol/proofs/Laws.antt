@@ -10,7 +10,7 @@ use Prim.Native.Nat.{ℕ, suc, _+_, _-_, _*_, _^_, _≤_, _<_, min}
 use native.Mathlib.Omega.{arith}
 use lib.Dec.{ltb, leb, eqb}
 use lib.IntN.{natAbs, subℕ, _-ℤ_}
-use lib.ListN.{length, set, length-map}
+use lib.ListN.{length, set}
 use lib.Seq.{getD-set-same, getD-set-other}
 use borrow.Author.Tests.{lt-ltb, le-ltb, leb-true, ltb-true, ltb-false, eqb-true, eq-eqb, ne-eqb}
 use Rattle.protocol.specs.Base.{_⇒_, any}
@@ -25,7 +25,7 @@ use Rattle.protocol.specs.Results.{ifAdopted, outcomeWord, adjustmentWor
 use Rattle.protocol.specs.Premises.{closing, each, isSteady, correctTakes, correctCloses, premise2, premise5, noneBetween, premise6, premise7, premise8}
 use Rattle.protocol.proofs.Tests.{absurd-bool, cases, cond-elim, not-true, not-false, not-is-false, and-left, and-right, and-both, and-false, all-below, below-all, or-left, or-right, or-cases, or-first, or-second, implied, eqb-same, all-in}
 use Rattle.protocol.proofs.Moments.{Earlier, earlier-in, each-at}
-use Rattle.protocol.proofs.Effects.{Kind, votes, adjusts, phaseOf, latestOf, voting, prepared, sendingOf, effect-split, send-same, kept-for-at, send-keeps, act-accepted, both-name, none-is-some, own-sent}
+use Rattle.protocol.proofs.Effects.{Kind, votes, adjusts, phaseOf, latestOf, voting, prepared, sendingOf, effect-split, send-same, kept-for-at, send-keeps, act-accepted, both-name, none-is-some, own-voted}
 use Rattle.protocol.proofs.Valid.{Valid, Taken}
 use Rattle.protocol.proofs.Ranges.{in-range}
 use Rattle.protocol.proofs.Phases.{close-by-entry}
@@ -126,13 +126,11 @@ vote-carries-start c r = refl
 
 -- "it is also h's own vote reading"
 pub own-vote-reading : (c : ℕ) (r : HeadRecord) → r .own < length (r .senders) → voteOf (vote c r .after) (r .own) ≡ startOf r c
-unfolding vote
-own-vote-reading c r h = own-sent (voting c) r c h refl ∙ send-keeps (λ k. k .start) (λ k x d a. refl) (voting c) r c
+own-vote-reading c r h = ap (λ (k : Sender). k .vote) (own-voted c r h)
 
 -- document 02, No. 4, "its own .. latest vote": the one that it sends
 pub own-latest-vote : (c : ℕ) (r : HeadRecord) → r .own < length (r .senders) → keptOf (vote c r .after) (r .own) .candidate ≡ SomeNumber c
-unfolding vote
-own-latest-vote c r h = ap (λ (k : Sender). k .candidate) (getD-set-same (dropOthers c r .senders) (r .own) _ noSender (rw (length-map (r .senders) (keptFor (SomeNumber c))) h))
+own-latest-vote c r h = ap (λ (k : Sender). k .candidate) (own-voted c r h)
 
 pub own-latest-adjust : (a : ℕ) (x : Reading) (r : HeadRecord) → r .own < length (r .senders) → keptOf (adjust a x r .after) (r .own) .adjuster ≡ SomeNumber a
 unfolding adjust
@@ -155,19 +153,16 @@ kept-of-others c r p d = getD-set-other (dropOthers c r .senders) (r .own) p _ n
 kept-of-voter : (c : ℕ) (k : Sender) → k .candidate ≡ SomeNumber c → keptFor (SomeNumber c) k ≡ k
 kept-of-voter c k e = rw (e, eqb-same c) refl
 
-reading-of-another : (v : OptNumber) (k : Sender) (c : ℕ) → k .candidate ≡ SomeNumber c → v ≢ SomeNumber c → keptFor v k .vote ≡ NoReading
-reading-of-another v k c e n =
+none-left : (v : OptNumber) (k : Sender) → k .candidate ≢ v → keptFor v k .vote ≡ NoReading
+none-left v k n =
     cond-elim (λ (x : OptReading). x ≡ NoReading) (sameNumber (k .candidate) v)
-    (λ t. let b = both-name (k .candidate) v t in absurd (n (b .2 ∙ sym (b .1) ∙ e))) (λ _. refl)
+    (λ t. let b = both-name (k .candidate) v t in absurd (n (b .1 ∙ sym (b .2)))) (λ _. refl)
 
 pub reading-for-candidate-kept : (c : ℕ) (r : HeadRecord) (p : ℕ) → p ≢ r .own → keptOf r p .candidate ≡ SomeNumber c → voteOf (vote c r .after) p ≡ voteOf r p
 reading-for-candidate-kept c r p d e = ap (λ (k : Sender). k .vote) (kept-of-others c r p d ∙ kept-of-voter c (keptOf r p) e)
 
 pub reading-for-another-dropped : (c : ℕ) (r : HeadRecord) (p : ℕ) → p ≢ r .own → keptOf r p .candidate ≢ SomeNumber c → voteOf (vote c r .after) p ≡ NoReading
-reading-for-another-dropped c r p d n =
-    ap (λ (k : Sender). k .vote) (kept-of-others c r p d)
-    ∙ cond-elim (λ (x : OptReading). x ≡ NoReading) (sameNumber (keptOf r p .candidate) (SomeNumber c))
-    (λ t. let b = both-name (keptOf r p .candidate) (SomeNumber c) t in absurd (n (b .1 ∙ sym (b .2)))) (λ _. refl)
+reading-for-another-dropped c r p d n = ap (λ (k : Sender). k .vote) (kept-of-others c r p d) ∙ none-left (SomeNumber c) (keptOf r p) n
 
 -- "another sender's vote reading": the head's own is not under the test of the ranges
 pub own-reading-untested : (r : HeadRecord) → readingCounts r (r .own) ≡ true
@@ -199,7 +194,7 @@ module _ (r : HeadRecord) (p k c : ℕ) (x : OptReading) (h : p < length (r .sen
   -- document 02, No. 5: "a vote taken that names another candidate leaves its sender with none"
   pub another-candidate-leaves-none : effect r (VoteDelivered p k c x) .after .vote .choice ≢ SomeNumber c → voteOf (effect r (VoteDelivered p k c x) .after) p ≡ NoReading
   another-candidate-leaves-none n =
-      ap (λ (s : Sender). s .vote) vote-taken ∙ reading-of-another (candidateAfter c (r .vote .choice)) (keepVote (keptOf r p) k c x) c refl (λ e. n (candidate-after ∙ e))
+      ap (λ (s : Sender). s .vote) vote-taken ∙ none-left (candidateAfter c (r .vote .choice)) (keepVote (keptOf r p) k c x) (λ e. n (candidate-after ∙ sym e))
 
   -- document 02, No. 4: it is the "sender's latest vote"
   pub latest-vote-taken : keptOf (effect r (VoteDelivered p k c x) .after) p .candidate ≡ SomeNumber c

@@ -1,13 +1,15 @@
 -- Record ranges are kept by every step and every run, so a replay never meets cause 10.
 -- The test of cause 10 is turned into facts. A fresh record has them, and an action that is not closed keeps them, in
--- both parts of its effect and in the test at its end. What is kept of a frame in range is in range, and a mark is set only after those that it
--- asks for. A head that sends names itself or whom the frame named, and each choice outranks the last one, so that with k frames
--- sent the choice is at most n − k. An adjustment is carried, or it is a median of readings in range.
+-- both parts of its effect and in the test at its end. What is kept of a frame in range is in range, and a mark is set only after
+-- those that it asks for. A head that sends names itself or whom the frame named, and each choice outranks the last one, so that with k frames
+-- sent the choice is at most n − k. An adjustment is carried, or it is a median of readings in range. After any vote the other
+-- readings that are left are for the candidate, whatever was kept; no other action brings one for another.
 -- Main results: `in-range`, `range-test`, `median-in`, `effect-in-range`, `take-in-range`, `step-in-range`,
 -- `fresh-in-range`, `run-in-range`, `frames-in-range`, `votes-below`.
-use mathlib.Core.Path.{_≡_, refl, sym, _∙_, ap, ap₂, subst}
+use mathlib.Core.Path.{_≡_, refl, sym, _∙_, ap, subst}
 use mathlib.Core.Bool.{Bool, true, false, cond, not, _&&_, _||_}
 use mathlib.Core.List.{List, _∷_}
+use mathlib.Core.Logic.{_≢_}
 use Prim.Native.Nat.{ℕ, zero, suc, _+_, _*_, _^_, _≤_, _<_}
 use native.Mathlib.Omega.{arith}
 use lib.Dec.{ltb, leb, eqb, lit<}
@@ -57,9 +59,13 @@ MarksInRange r =
       adjusting : (r .adjust .turn || r .adjust .closed) ≡ true → r .vote .closed ≡ true;
     }
 
--- vote readings of other senders are for the candidate
+-- what is kept of a sender fits the candidate m: a vote reading only with a latest vote that names m
+abbrev pub fitsFor : OptNumber → Sender → Bool
+fitsFor m k = isReading (k .vote) ⇒ sameNumber (k .candidate) m
+
+-- so it is with every other sender
 abbrev pub Counted : HeadRecord → Type 0
-Counted r = (p : ℕ) → p < r .n → readingCounts r p ≡ true
+Counted r = (p : ℕ) → p < r .n → p ≢ r .own → fitsFor (r .vote .choice) (keptOf r p) ≡ true
 
 pub record InRange (r : HeadRecord) : Type 0 where
   pub heads : (2 ≤ r .n) × (r .n ≤ 16) × (2 * r .f + 1 ≤ r .n)
@@ -150,12 +156,20 @@ adjustment-test : (m : OptNumber) (x : ℕ) → (m ≡ NoNumber → x ≡ 0) →
 adjustment-test NoNumber x f = eq-eqb x 0 (f refl)
 adjustment-test (SomeNumber v) x f = refl
 
+counts-fact : (r : HeadRecord) (p : ℕ) → readingCounts r p ≡ true → p ≢ r .own → fitsFor (r .vote .choice) (keptOf r p) ≡ true
+unfolding readingCounts
+counts-fact r p e other = or-cases (eqb p (r .own)) _ e (λ t. absurd (other (eqb-true p (r .own) t))) (λ t. t)
+
+counts-test : (r : HeadRecord) (p : ℕ) → (p ≢ r .own → fitsFor (r .vote .choice) (keptOf r p) ≡ true) → readingCounts r p ≡ true
+unfolding readingCounts
+counts-test r p f = cases (eqb p (r .own)) (λ t. or-first (eqb p (r .own)) _ t) (λ t. or-second (eqb p (r .own)) _ (f (eqb-false p (r .own) t)))
+
 abbrev keptTest : HeadRecord → ℕ → Bool
 keptTest r p = cond (ltb p (r .n)) (senderInRange (r .n) (keptOf r p) && readingCounts r p) (senderIsNone (keptOf r p))
 
 kept-test : {r : HeadRecord} → InRange r → (p : ℕ) → p < 16 → keptTest r p ≡ true
 unfolding senderIsNone
-kept-test {r} h p b = cases (ltb p (r .n)) (λ t. let l = ltb-true _ _ t in rw t (and-both (sender-test (r .n) (omega (arith, h .heads .0)) (h .kept p .below l)) (h .counted p l))) (λ t. rw (t, h .kept p .above (ltb-false _ _ t) b) refl)
+kept-test {r} h p b = cases (ltb p (r .n)) (λ t. let l = ltb-true _ _ t in rw t (and-both (sender-test (r .n) (omega (arith, h .heads .0)) (h .kept p .below l)) (counts-test r p (h .counted p l)))) (λ t. rw (t, h .kept p .above (ltb-false _ _ t) b) refl)
 
 pub in-range : {r : HeadRecord} → recordInRange r ≡ true → InRange r
 unfolding recordInRange phaseInRange marksInRange
@@ -172,7 +186,7 @@ in-range {r} e =
       early = for-both _ (implied (r .vote .early) _ (search parts depth 9)) (implied (r .adjust .early) _ (search parts depth 9));
       marks = record { confirmed = implied (r .confirmed) _ (search parts depth 9); turn = implied (r .vote .turn) _ (search parts depth 10); adjusting = implied (r .adjust .turn || r .adjust .closed) _ (search parts depth 10) };
       kept = λ p. record { below = λ b. sender-in-range (r .n) (omega arith) (and-left _ _ (rw (lt-ltb p (r .n) b) at (tested p (omega arith)))); above = λ a b. nothing-kept _ (rw (le-ltb p (r .n) a) at (tested p b)) };
-      counted = λ p b. and-right (senderInRange (r .n) (keptOf r p)) _ (rw (lt-ltb p (r .n) b) at (tested p (omega arith)));
+      counted = λ p b. counts-fact r p (and-right (senderInRange (r .n) (keptOf r p)) _ (rw (lt-ltb p (r .n) b) at (tested p (omega arith))));
     }
 
 pub range-test : {r : HeadRecord} → InRange r → recordInRange r ≡ true
@@ -245,26 +259,21 @@ prepared-marks r AdjustTurn o h = record { confirmed = h .confirmed; turn = h .t
 prepared-marks r (AdjustDelivered p k c x) o h = h
 prepared-marks r AdjustClose o h = record { confirmed = h .confirmed; turn = h .turn; adjusting = λ _. not-false (or-left (not (r .vote .closed)) _ o) }
 
--- WHICH VOTE READINGS COUNT: the test of one sender, m being the candidate
-
-abbrev fitsFor : OptNumber → Sender → Bool
-fitsFor m k = isReading (k .vote) ⇒ sameNumber (k .candidate) m
+-- WHICH VOTE READINGS COUNT
 
 kept-for-counts : (v : OptNumber) (k : Sender) → fitsFor v (keptFor v k) ≡ true
 kept-for-counts v k =
     cond-elim (λ (x : OptReading). (isReading x ⇒ sameNumber (k .candidate) v) ≡ true) (sameNumber (k .candidate) v)
     (λ t. implies (isReading (k .vote)) _ (λ _. t)) (λ _. refl)
 
--- a part of the senders that a change keeps counts as before
-counts-same : (r m : HeadRecord) → m .n ≡ r .n → m .own ≡ r .own → ((p : ℕ) → fitsFor (m .vote .choice) (keptOf m p) ≡ fitsFor (r .vote .choice) (keptOf r p)) → Counted r → Counted m
-unfolding readingCounts
-counts-same r m en eo same h p l = ap₂ (λ (i : ℕ) (b : Bool). eqb p i || b) eo (same p) ∙ h p (subst (λ (i : ℕ). p < i) en l)
+-- a vote that is not adopted leaves the candidate
+stays-candidate : (c : ℕ) (v : OptNumber) → outranks c v ≡ false → candidateAfter c v ≡ v
+stays-candidate c v t = rw t refl
 
 counted-prepared : (r : HeadRecord) (a : Action) → Counted r → namedIn votes (sendingOf r a) ≡ NoNumber → Counted (prepared r a)
-unfolding readingCounts
 counted-prepared r Look h e = h
 counted-prepared r StartSent h e = h
-counted-prepared r (StartDelivered p) h e = counts-same r (prepared r (StartDelivered p)) refl refl (λ q. column-kept (fitsFor (r .vote .choice)) r p Start q refl) h
+counted-prepared r (StartDelivered p) h e = λ q l d. column-kept (fitsFor (r .vote .choice)) r p Start q refl ∙ h q l d
 counted-prepared r StartConfirmed h e = h
 counted-prepared r VoteTurn h e = h
 counted-prepared r (VoteDelivered p k c x) h e = go (passedOver votes r p k) (outranks c (r .vote .choice)) refl e
@@ -273,28 +282,25 @@ counted-prepared r (VoteDelivered p k c x) h e = go (passedOver votes r p k) (ou
     held = r .vote .choice
 
     go : (b o : Bool) → outranks c held ≡ o → namedIn votes (cond b nothing (cond o (voting c) nothing)) ≡ NoNumber
-        → (q : ℕ) → q < r .n → (eqb q (r .own) || fitsFor held (getD (cond b (r .senders) (set (r .senders) p (keptAfter r p (Vote k c x)))) q noSender)) ≡ true
+        → (q : ℕ) → q < r .n → q ≢ r .own → fitsFor held (getD (cond b (r .senders) (set (r .senders) p (keptAfter r p (Vote k c x)))) q noSender) ≡ true
     go true o t u = h
     go false true t u = none-is-some (sym u)
     go false false t u =
-        set-holds (λ q z. q < r .n → (eqb q (r .own) || fitsFor held z) ≡ true) (r .senders) p _
-        (λ _. or-second (eqb p (r .own)) _ (subst (λ (b : Bool). fitsFor held (keptFor (cond b (SomeNumber c) held) (keepVote (keptOf r p) k c x)) ≡ true) (sym t) (kept-for-counts held (keepVote (keptOf r p) k c x)))) h
+        set-holds (λ q z. q < r .n → q ≢ r .own → fitsFor held z ≡ true) (r .senders) p _
+        (λ _ _. subst (λ (v : OptNumber). fitsFor held (keptFor v (keepVote (keptOf r p) k c x)) ≡ true) (sym (stays-candidate c held t)) (kept-for-counts held (keepVote (keptOf r p) k c x))) h
 counted-prepared r VoteClose h e = h
 counted-prepared r AdjustTurn h e = h
-counted-prepared r (AdjustDelivered p k c x) h e = counts-same r (prepared r (AdjustDelivered p k c x)) refl refl (λ q. column-kept (fitsFor (r .vote .choice)) r p (Adjust k c x) q refl) h
+counted-prepared r (AdjustDelivered p k c x) h e = λ q l d. column-kept (fitsFor (r .vote .choice)) r p (Adjust k c x) q refl ∙ h q l d
 counted-prepared r AdjustClose h e = h
 
 -- a vote makes them count, whatever was kept
 counted-send : (x : Sending) (m : HeadRecord) → (namedIn votes x ≡ NoNumber → Counted m) → Counted (send x m .after)
-unfolding readingCounts vote adjust
+unfolding vote adjust
 counted-send nothing m h = h refl
 counted-send Effects.Sending.start m h = h refl
-counted-send (voting c) m h = λ p l.
-    cases (eqb p (m .own)) (λ t. or-first (eqb p (m .own)) _ t)
-    (λ t. or-second (eqb p (m .own)) _ (subst (λ (z : Sender). fitsFor (SomeNumber c) z ≡ true)
-    (sym (getD-set-other (dropOthers c m .senders) (m .own) p _ noSender (eqb-false p (m .own) t) ∙ kept-for-at c m p)) (kept-for-counts (SomeNumber c) (keptOf m p))))
-counted-send (adjusting c x) m h =
-    counts-same m (send (adjusting c x) m .after) refl refl (λ q. set-keeps (fitsFor (m .vote .choice)) (m .senders) (m .own) q _ refl) (h refl)
+counted-send (voting c) m h = λ p l d.
+    subst (λ (z : Sender). fitsFor (SomeNumber c) z ≡ true) (sym (getD-set-other (dropOthers c m .senders) (m .own) p _ noSender d ∙ kept-for-at c m p)) (kept-for-counts (SomeNumber c) (keptOf m p))
+counted-send (adjusting c x) m h = λ q l d. set-keeps (fitsFor (m .vote .choice)) (m .senders) (m .own) q _ refl ∙ h refl q l d
 
 counted-effect : (r : HeadRecord) (a : Action) → Counted r → Counted (send (sendingOf r a) (prepared r a) .after)
 counted-effect r a h = counted-send (sendingOf r a) (prepared r a) (counted-prepared r a h)
@@ -357,7 +363,7 @@ module _ {r : HeadRecord} (a : Action) (h : InRange r) (i : ActionInRange (r .n)
 
 -- the test at the end of a step closes a phase with its mark, and the adjust phase only after the vote phase
 concluded-in-range : {n : ℕ} (tested : Bool) (t : Stepped) → AnswerInRange n t → AnswerInRange n (concluded tested t)
-unfolding mayClose readingCounts
+unfolding mayClose
 concluded-in-range tested t (h, f) = (
   record { heads = h .heads; own = h .own; last = h .last; adjustment = h .adjustment; unadjusted = h .unadjusted; phase = for-both _ (h .phase votes) (h .phase adjusts); early = for-both _ (with-mark (earlyNow votes tested (t .after)) (h .early votes)) (with-mark (earlyNow adjusts tested (t .after)) (h .early adjusts)); marks = record { confirmed = h .marks .confirmed; turn = h .marks .turn; adjusting = adjusting }; kept = h .kept; counted = h .counted },
   f,
@@ -387,7 +393,6 @@ taken-in-range : {n : ℕ} (r : HeadRecord) (a : Action) → ActionInRange n a �
 taken-in-range {n} r a = subst (DeliveryInRange n) (sym (taken-delivery (taken-as r a)))
 
 last-in-range : {r : HeadRecord} {x : Reading} → InRange r → x .0 < 2 ^ 28 → InRange (withLast r x)
-unfolding readingCounts
 last-in-range h b =
     record { heads = h .heads; own = h .own; last = b; adjustment = h .adjustment; unadjusted = h .unadjusted; phase = for-both _ (h .phase votes) (h .phase adjusts); early = for-both _ (h .early votes) (h .early adjusts); marks = h .marks; kept = h .kept; counted = h .counted }
 
@@ -427,11 +432,11 @@ none-in-range n p b =
     record { below = λ l. subst (SenderInRange n) (sym (getD-replicate 16 p noSender noSender (omega arith))) (none (omega arith)); above = λ _ l. getD-replicate 16 p noSender noSender l }
 
 fresh-facts : (n f : ℕ) {q : ℕ} → headsFit n f ≡ true → q < n → InRange (fresh n f q)
-unfolding fresh readingCounts
+unfolding fresh
 fresh-facts n f {q} e b =
     let heads = heads-fit n f e in
-    let none : (p : ℕ) → p < n → (eqb p q || fitsFor NoNumber (getD (replicate 16 noSender) p noSender)) ≡ true =
-    λ p l. or-second (eqb p q) _ (ap (fitsFor NoNumber) (getD-replicate 16 p noSender noSender (omega arith))) in
+    let none : (p : ℕ) → p < n → p ≢ q → fitsFor NoNumber (getD (replicate 16 noSender) p noSender) ≡ true =
+    λ p l _. ap (fitsFor NoNumber) (getD-replicate 16 p noSender noSender (omega arith)) in
     record { heads = heads; own = b; last = lit< tt; adjustment = lit< tt; unadjusted = λ _. refl; phase = for-both _ refl refl; early = for-both _ (λ t. t) (λ t. t); marks = record { confirmed = λ t. t; turn = λ t. t; adjusting = λ t. t }; kept = λ p. none-in-range n p (heads .1); counted = none }
 
 pub fresh-in-range : (n f q : ℕ) → headsFit n f ≡ true → q < n → recordInRange (fresh n f q) ≡ true

@@ -8,16 +8,15 @@ use mathlib.Core.Logic.{_≢_}
 use Prim.Native.Nat.{ℕ, _≤_, _<_}
 use native.Mathlib.Omega.{arith}
 use lib.Dec.{eqb}
-use lib.ListN.{length, getD, length-map}
-use lib.Seq.{getD-set-same}
+use lib.ListN.{length, getD}
 use borrow.Author.Tests.{eqb-true, eqb-false}
 use Rattle.protocol.specs.Types.{Reading, OptReading, NoReading, SomeReading, OptNumber, SomeNumber, Sender, HeadRecord, Setting, Frame, NoFrame, Start, Vote, Adjust}
 use Rattle.protocol.specs.Words.{settingAt, headsFit}
-use Rattle.protocol.specs.Record.{isReading, reading, noSender, keptOf, startOf, voteOf, sameNumber, readingCounts, fresh, recordInRange}
+use Rattle.protocol.specs.Record.{isReading, reading, noSender, keptOf, startOf, voteOf, sameNumber, fresh, recordInRange}
 use Rattle.protocol.specs.Step.{keptFor, dropOthers, accepted, vote, adjust, voteReadings, candidateAfter}
 use Rattle.protocol.specs.Run.{Event, History, recordOf, frameSent, frameOf, ran, runSheet}
-use Rattle.protocol.proofs.Tests.{absurd-bool, cases, cond-elim, and-right, or-cases, implied, eqb-same}
-use Rattle.protocol.proofs.Effects.{votes, Delivery, deliveredBy, serialOf, sendersAfter, set-keeps, set-holds, closed-last, kept-for-at, Sending, nothing, voting, adjusting, send, ignored, keptAfter, kept-after, answer, prepared-same, both-name, same-number, own-kept}
+use Rattle.protocol.proofs.Tests.{absurd-bool, cases, cond-elim, and-right, implied, eqb-same}
+use Rattle.protocol.proofs.Effects.{votes, Delivery, deliveredBy, serialOf, sendersAfter, set-keeps, set-holds, closed-last, kept-for-at, Sending, nothing, voting, adjusting, send, ignored, keptAfter, kept-after, answer, prepared-same, both-name, same-number, own-kept, own-voted}
 use Rattle.protocol.proofs.Effects as Effects
 use Rattle.protocol.proofs.Valid.{baseOf, Valid, start, more, record-at, record-other, by-head, delivery-at, of-effect, invariant, fixed, accepted-sheet}
 use Rattle.protocol.proofs.Phases.{held, no-senders, phase-of-frame, sendingAt, preparedAt}
@@ -28,10 +27,8 @@ use Rattle.protocol.proofs.Ranges.{Every, every-vote-reading, InRange, 
 
 names-candidate : (r : HeadRecord) → InRange r → (p : ℕ) → p < r .n → p ≢ r .own → (x : Reading) → voteOf r p ≡ SomeReading x
     → (v : ℕ) × (r .vote .choice ≡ SomeNumber v) × (keptOf r p .candidate ≡ SomeNumber v)
-unfolding readingCounts
 names-candidate r h p l other x e =
-    let counted = or-cases (eqb p (r .own)) _ (h .counted p l) (λ t. absurd (other (eqb-true p (r .own) t))) (λ t. implied (isReading (voteOf r p)) _ t (ap isReading e)) in
-    let named = both-name (keptOf r p .candidate) (r .vote .choice) counted in
+    let named = both-name (keptOf r p .candidate) (r .vote .choice) (implied (isReading (voteOf r p)) _ (h .counted p l other) (ap isReading e)) in
     (named .0, named .2, named .1)
 
 -- whose reading x is, and that its latest vote names the candidate v, unless it is the head's own
@@ -92,8 +89,7 @@ after-sending : (x : Sending) (m : HeadRecord) → m .own < length (m .senders) 
 unfolding vote adjust
 after-sending nothing m b h = h
 after-sending Effects.Sending.start m b h = h
-after-sending (voting c) m b h =
-    ap (λ (k : Sender). k .candidate) (getD-set-same (dropOthers c m .senders) (m .own) _ noSender (rw (length-map (m .senders) (keptFor (SomeNumber c))) b))
+after-sending (voting c) m b h = ap (λ (k : Sender). k .candidate) (own-voted c m b)
 after-sending (adjusting c y) m b h = set-keeps (λ k. k .candidate) (m .senders) (m .own) (m .own) _ refl ∙ h
 
 -- a delivered frame leaves a vote's reading with whom the vote names, or what was kept
