@@ -1,5 +1,5 @@
 /* The fitting shop's case at one board: head 0 of six goes from candidate 5 to candidate 2. Head 4, which voted for 5 and
- * stopped, has read 1394 of head 5's start; the median is of what was read of head 2's. With 1394 it would be 1394. */
+ * stopped, has read 1394 of head 5's start; the median is of what was read of head 2's. With 1394 it would be 1414. */
 #include <stdio.h>
 #include <stdlib.h>
 

@@ -39,7 +39,8 @@ typedef struct {
  * need not know whether a phase closed early: it starts its timers and calls their actions as before.
  *
  * Of the start readings that votes carry, the adjustment is the median of those voted for the candidate that the head has at
- * its adjust turn: when it goes on to another candidate it drops the others, and a vote for another one leaves none. */
+ * its adjust turn: when it goes on to another candidate it drops the others, and a vote for another one leaves none. With an
+ * even count of them it is half the sum of the two middle ones, rounded down. */
 enum {
     DAISARNICA_LOOK = 0,             /* only a reading */
     DAISARNICA_START_SENT = 1,       /* the start is the frame to send */

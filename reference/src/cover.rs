@@ -8,6 +8,7 @@ use crate::claim;
 use crate::fast;
 use crate::generate::{generate, Aim, Generated};
 use crate::judge::{close_indices, first_broken, keeps, keeps_part, parts};
+use crate::medians::{evens, EVENS};
 use crate::program::{printed, read_words};
 use crate::record::Record;
 use crate::results::HeadResult;
@@ -66,7 +67,12 @@ pub const BRANCHES: &[&str] = &[
     "7 with an adjuster",
     "7 no candidate",
     "7 no vote reading",
-    "7 median of an even count",
+    EVENS[0],
+    EVENS[1],
+    EVENS[2],
+    EVENS[3],
+    EVENS[4],
+    EVENS[5],
     "7 median of an odd count above 1",
     WAYS[6],
     WAYS[7],
@@ -200,6 +206,7 @@ pub const BRANCHES: &[&str] = &[
     "kept, a correct head dropped readings",
     "kept, a correct adjuster left out a faulty head's reading",
     "kept, the adjustment another with the readings left out",
+    "kept, the adjustment none of its adjuster's readings",
     "kept with drift 4095",
     "kept with drift 0",
     "kept with tightness 65535",
@@ -220,6 +227,8 @@ pub const ALLOWED_COUNTS: usize = 71;
 #[derive(Default)]
 pub struct Cover {
     pub branches: BTreeMap<&'static str, u64>,
+    /// By branch of an entry, the sheets in which one takes it.
+    pub in_sheets: BTreeMap<&'static str, u64>,
     pub sheets: u64,
     pub accepted: u64,
     pub refused: u64,
@@ -301,8 +310,12 @@ impl Cover {
             branches(taken, &mut seen);
             watch.entry(taken);
         });
-        for &name in seen.iter().chain(&watch.ways) {
+        seen.append(&mut watch.ways);
+        for &name in &seen {
             self.count(name);
+        }
+        for name in BTreeSet::from_iter(seen) {
+            *self.in_sheets.entry(name).or_default() += 1;
         }
         match (&run, &plain) {
             (Err(refusal), _) | (Ok(_), Err(refusal)) => {
@@ -472,7 +485,7 @@ fn early_after_entry(run: &Run, close: u32) -> bool {
     })
 }
 
-/// How heads closed in a sheet that keeps all premises.
+/// How heads closed in a sheet that keeps all premises, and what they adopted.
 fn kept_ways(run: &Run) -> Vec<&'static str> {
     let is_correct = |r: &&Record| run.settings.is_correct(r.own);
     let (correct, faulty): (Vec<&Record>, Vec<&Record>) = run.records.iter().partition(is_correct);
@@ -501,6 +514,11 @@ fn kept_ways(run: &Run) -> Vec<&'static str> {
         ..run.clone()
     };
     let is_both = |some: usize| 0 < some && some < all;
+    // A head's vote readings stay as they are after its adjust turn.
+    let is_no_reading = |r: &&Record| {
+        let adjuster = r.adjuster.map(|a| &run.records[a as usize]);
+        adjuster.is_some_and(|a| !a.vote_readings().contains(&r.adjustment))
+    };
     let some_early = |r: &&Record| r.vote_early || r.adjust_early;
     [
         (
@@ -560,6 +578,10 @@ fn kept_ways(run: &Run) -> Vec<&'static str> {
         (
             !keeps(&counted, 8),
             "kept, a spent 9 being no close (premise 8)",
+        ),
+        (
+            correct.first().is_some_and(is_no_reading),
+            "kept, the adjustment none of its adjuster's readings",
         ),
     ]
     .into_iter()
@@ -660,18 +682,17 @@ fn branches(taken: &Taken, seen: &mut Vec<&'static str>) {
             None => "6 without a candidate",
         }),
         7 => {
-            let count = before.vote_readings().len();
+            let readings = before.vote_readings();
             if before.candidate.is_none() {
                 seen.push("7 no candidate");
             } else if before.adjuster.is_some() {
                 seen.push("7 with an adjuster");
-            } else if count == 0 {
+            } else if readings.is_empty() {
                 seen.push("7 no vote reading");
             } else {
                 seen.push("7 becomes adjuster");
-                if count.is_multiple_of(2) {
-                    seen.push("7 median of an even count");
-                } else if count > 1 {
+                seen.extend(evens(&readings));
+                if readings.len() > 1 && !readings.len().is_multiple_of(2) {
                     seen.push("7 median of an odd count above 1");
                 }
             }

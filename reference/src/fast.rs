@@ -143,7 +143,10 @@ impl Head {
         held.sort_unstable();
         // `NO_READING` is the largest, so the readings held come first.
         let count = held.partition_point(|&r| r != NO_READING);
-        (count > 0).then(|| held[(count - 1) / 2])
+        // The two in the middle; with an odd count both are the one there.
+        let low = held[count.checked_sub(1)? / 2];
+        let high = held[count / 2];
+        Some(low + (high - low) / 2)
     }
 
     fn result(&self, own: usize) -> HeadResult {

@@ -14,6 +14,7 @@ pub mod draft;
 pub mod fast;
 pub mod generate;
 pub mod judge;
+pub mod medians;
 pub mod open;
 pub mod program;
 pub mod random;

@@ -187,13 +187,19 @@ impl Record {
     }
 }
 
-/// "The median of k readings in order is the one at place (k − 1) / 2, rounded
-/// down, from place 0." None without a reading.
+/// Document 02, No. 6: "With an even count, the adjustment becomes half the sum of the
+/// two middle readings, rounded down." With an odd count it is still the middle one: "The
+/// median of k readings in order is the one at place (k − 1) / 2, rounded down, from
+/// place 0." None without a reading. Two readings, each below 2²⁸, have a sum in 32 bits.
 pub fn median(readings: &[Reading]) -> Option<Reading> {
-    if readings.is_empty() {
-        return None;
-    }
     let mut in_order = readings.to_vec();
     in_order.sort();
-    Some(in_order[(in_order.len() - 1) / 2])
+    match in_order.len() {
+        0 => None,
+        count if count.is_multiple_of(2) => {
+            let sum = in_order[count / 2 - 1].0 + in_order[count / 2].0;
+            Some(Reading(sum / 2))
+        }
+        count => Some(in_order[(count - 1) / 2]),
+    }
 }

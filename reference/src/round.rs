@@ -96,6 +96,13 @@ impl Clock {
         self.keep(now, reading)
     }
 
+    /// Sets the clock before its first entry.
+    fn set(&mut self, now: i64, reading: i64) {
+        self.base = reading;
+        self.begun = Some(now);
+        self.keep(now, reading);
+    }
+
     fn keep(&mut self, now: i64, reading: i64) -> i64 {
         let offset = MILLION * (reading - now);
         self.least = self.least.min(offset - self.drift * now);
@@ -484,6 +491,14 @@ pub fn round(random: &mut Random, breaks: u32) -> Option<(Settings, Vec<Entry>)>
         2 => random.below(100),
         _ => random.below(100_000),
     };
+    // Some benches set their clocks together: readings are close, or equal.
+    let is_set = random.chance(1, 8);
+    if is_set {
+        let (base, apart) = (clocks[0].base, random.pick(&[0, 1, 3, 50]));
+        for clock in &mut clocks {
+            clock.set(now as i64, base + random.between(0, apart));
+        }
+    }
     let slow = random
         .chance(1, 3)
         .then(|| random.below(u64::from(n)) as u32);
@@ -524,10 +539,10 @@ pub fn round(random: &mut Random, breaks: u32) -> Option<(Settings, Vec<Entry>)>
         held: Vec::new(),
         weights: [0; 4].map(|_| random.pick(&[1, 4, 16, 64])),
         extras: random.below(6 * u64::from(n)) as u32,
-        pace: random.pick(if late {
-            &[1, 3, 40][..]
-        } else {
-            &[1, 3, 40, 400, 20_000]
+        pace: random.pick(match (late, is_set) {
+            (_, true) => &[1, 1, 3, 40][..],
+            (true, _) => &[1, 3, 40],
+            _ => &[1, 3, 40, 400, 20_000],
         }),
         late,
         linger: random.pick(&[1, 5, 40]),

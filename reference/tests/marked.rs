@@ -1,4 +1,5 @@
-//! M1 to M12 of document 01, the causes of one head, and the recorder of document 02.
+//! M1 to M12 of document 01, with the values of document 02, No. 6; the causes of one
+//! head; and the recorder of document 02.
 
 use reference::counter::counter_reading;
 use reference::fast;
@@ -72,15 +73,15 @@ fn m1_result_words_and_text() {
     assert_eq!(replay(&m1(), &mut buffer), Ok(()));
     let result = [
         0x6200_0000,
-        0x7000_04EC,
+        0x7000_0506,
         0x8000_04EC,
         0x6210_0000,
-        0x7000_04EC,
+        0x7000_0506,
         0x8000_0521,
     ];
     assert_eq!(buffer[..6], result);
     assert_eq!(buffer[6..], [7, 7], "later words kept");
-    let text = "0 2 0 0 1260 1260 0\n1 2 0 0 1260 1313 -53\npremises 0\n";
+    let text = "0 2 0 0 1286 1260 26\n1 2 0 0 1286 1313 -27\npremises 0\n";
     assert_eq!(printed(&to_bytes(&m1())), text);
     assert_eq!(fast::printed(&to_bytes(&m1())), text);
 }
@@ -93,7 +94,7 @@ fn m1_looks() {
         .iter()
         .map(|r| i64::from(r.last_reading.0) + r.correction().unwrap())
         .collect();
-    assert_eq!(shown, [4000, 3997]);
+    assert_eq!(shown, [4026, 4023]);
     let checked = reference::claim::check(&m1()).unwrap().unwrap();
     // Both heads close early, so that their spent actions 9 are looks too.
     assert_eq!((checked.heads, checked.pairs), (2, 2));
@@ -112,7 +113,7 @@ fn m4_and_m5_median() {
         let readings: Vec<Reading> = readings.iter().map(|&r| Reading(r)).collect();
         median(&readings)
     };
-    assert_eq!(median_of(&[1313, 1260]), Some(Reading(1260)));
+    assert_eq!(median_of(&[1313, 1260]), Some(Reading(1286)));
     assert_eq!(median_of(&[5, 9, 7]), Some(Reading(7)));
     assert_eq!(median_of(&[]), None);
 }

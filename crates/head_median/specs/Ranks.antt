@@ -1,30 +1,26 @@
--- The rank of a number in a list, by counting.
+-- The rank of a number in a list, by counting, and what follows a number in order.
 use mathlib.Core.Bool.{Bool, cond, _&&_}
 use mathlib.Core.List.{List, [], _∷_}
-use Prim.Native.Nat.{ℕ, _+_}
+use Prim.Native.Nat.{ℕ, suc}
 use lib.Dec.{ltb, leb}
-use lib.ListN.{getD}
-use Rattle.protocol.specs.Median.{inOrder}
-
-abbrev pub bit : Bool → ℕ
-bit b = cond b 1 0
-
--- how many numbers of the list pass the test
-abbrev pub count : (ℕ → Bool) → List ℕ → ℕ
-count t [] = 0
-count t (y ∷ l) = bit (t y) + count t l
-
--- the number at an index of the list in order, 0 beyond its end
-unfoldable pub orderedAt : ℕ → List ℕ → ℕ
-orderedAt index l = getD (inOrder l) index 0
-
--- y is below x; y is at most x
-abbrev pub isBelow : ℕ → ℕ → Bool
-isBelow x y = ltb y x
-
-abbrev pub isUpto : ℕ → ℕ → Bool
-isUpto x y = leb y x
+use Rattle.protocol.proofs.Ranks.{count, isBelow}
 
 -- x stands at the index once the list is in order: those below it are no more than the index, those up to it are more
 unfoldable pub covers : ℕ → List ℕ → ℕ → Bool
-covers index l x = leb (count (isBelow x) l) index && ltb index (count (isUpto x) l)
+covers index l x = leb (count (isBelow x) l) index && ltb index (count (isBelow (suc x)) l)
+
+-- above every reading
+abbrev pub none : ℕ
+none = 4294967295
+
+-- z if it is not below the bound
+abbrev pub numberFrom : ℕ → ℕ → ℕ
+numberFrom bound z = cond (ltb z bound) none z
+
+abbrev pub lesserOf : ℕ → ℕ → ℕ
+lesserOf x y = cond (ltb x y) x y
+
+-- the least number of the list that is not below the bound
+unfoldable pub leastFrom : ℕ → List ℕ → ℕ
+leastFrom bound [] = none
+leastFrom bound (z ∷ l) = lesserOf (numberFrom bound z) (leastFrom bound l)

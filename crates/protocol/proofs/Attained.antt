@@ -14,7 +14,7 @@ use Rattle.protocol.specs.Base.{all, table}
 use Rattle.protocol.specs.Types.{HeadRecord, Setting, Entry, Judged, Kept, Broken, Unjudged}
 use Rattle.protocol.specs.Words.{settingOf, firstWordFits, entryOf, entryFits, settingAt, entryAt}
 use Rattle.protocol.specs.Record.{fresh, chosenStart, outcome, correction, correctedClock, markNumber}
-use Rattle.protocol.specs.Median.{median}
+use Rattle.protocol.specs.Median.{orderedAt, median}
 use Rattle.protocol.specs.Step.{vote, adjust, startsHeld, mayLead, lead, voteReadings, mayAdjust, propose, delivered, effect, isClosed, mayClose, isTested, act, takenAs, takeAction, actionOf}
 use Rattle.protocol.specs.Causes.{sheetVerdict}
 use Rattle.protocol.specs.Run.{History, Run, stopped, ran, recordOf, frameSent, inputOf, stepEntry, andThen, runOf, runSheet}
@@ -135,7 +135,7 @@ passes x = isKept (judge (x .words)) && (eqb (distanceIn x) (boundIn x) && sameL
 
 all-pass : all passes widest ≡ true
 unfolding widest all-early none-early some-early earlyOf earlyMarks millionths received bound distanceIn boundIn entryWords sheetOf
-    settingOf firstWordFits entryOf entryFits fresh chosenStart outcome correction correctedClock median
+    settingOf firstWordFits entryOf entryFits fresh chosenStart outcome correction correctedClock orderedAt median
     vote adjust startsHeld mayLead lead voteReadings mayAdjust propose delivered effect isClosed mayClose isTested act takenAs takeAction actionOf sheetVerdict
     recordOf frameSent inputOf stepEntry andThen runOf runSheet endingOf
     each before lastStart premise1 premise2 startWithin premise3 premise4 framesReached votesReached premise5 noneBetween premise6 adjustsReached premise7 premise8 firstBroken judge

@@ -9,6 +9,7 @@ pub mod Causes
 pub mod Fits
 pub mod Spelling
 pub mod Valid
+pub mod Ranks
 pub mod Medians
 pub mod Ranges
 pub mod Phases

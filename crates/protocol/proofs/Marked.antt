@@ -7,7 +7,7 @@ use lib.ListN.{getD}
 use Rattle.protocol.specs.Base.{all}
 use Rattle.protocol.specs.Words.{settingOf, firstWordFits, entryOf, entryFits}
 use Rattle.protocol.specs.Record.{fresh, chosenStart, outcome, correction, correctedClock}
-use Rattle.protocol.specs.Median.{median}
+use Rattle.protocol.specs.Median.{orderedAt, median}
 use Rattle.protocol.specs.Step.{vote, adjust, startsHeld, mayLead, lead, voteReadings, mayAdjust, propose, delivered, effect, isClosed, mayClose, isTested, act, takenAs, takeAction, actionOf}
 use Rattle.protocol.specs.Counter.{counterReading}
 use Rattle.protocol.specs.Causes.{sheetVerdict}
@@ -29,7 +29,7 @@ abbrev nothing : Case
 nothing = record { found = []; expected = [] }
 
 all-pass : all passes marked ≡ true
-unfolding settingOf firstWordFits entryOf entryFits fresh chosenStart outcome correction correctedClock median
+unfolding settingOf firstWordFits entryOf entryFits fresh chosenStart outcome correction correctedClock orderedAt median
     vote adjust startsHeld mayLead lead voteReadings mayAdjust propose delivered effect isClosed mayClose isTested act takenAs takeAction actionOf counterReading sheetVerdict
     recordOf frameSent inputOf stepEntry andThen runOf runSheet outcomeWord adjustmentWord startWord wordsFrom resultWords replay
     each before lastStart premise1 premise2 startWithin premise3 premise4 framesReached votesReached premise5 noneBetween premise6 adjustsReached premise7 premise8 firstBroken judge

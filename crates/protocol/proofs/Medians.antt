@@ -1,48 +1,91 @@
--- The median of a list has what each of its numbers has (`median-holds`), so it lies between the least and the greatest
--- (`median-between`): putting numbers in order neither adds nor loses one.
-use mathlib.Core.Path.{_≡_, refl, _∙_, ap}
-use mathlib.Core.List.{List, [], _∷_}
-use Prim.Native.Nat.{ℕ, zero, suc, _-_, _/_, _≤_, _<_}
+-- The laws of the median. It is half the sum of the numbers at places (k − 1) / 2 and k / 2, whatever the count
+-- (`median-halves`), so it lies between these two (`median-middle`). From this: it lies between the least and the greatest
+-- number (`median-between`) and is below what they all are below (`median-below`); at most half of the numbers are below it and
+-- at least half are up to it (`half-below`, `half-upto`); and the order of the numbers does not matter (`median-any-order`).
+use mathlib.Core.Path.{_≡_, sym, _∙_, ap, ap₂}
+use mathlib.Core.List.{List}
+use Prim.Native.Nat.{ℕ, suc, _+_, _-_, _*_, _/_, _%_, _≤_, _<_}
 use native.Mathlib.Omega.{arith}
-use lib.Dec.{leb}
-use lib.ListN.{length, getD}
-use Rattle.protocol.specs.Median.{insert, inOrder, median}
-use Rattle.protocol.proofs.Tests.{cond-elim}
+use lib.Dec.{ltb}
+use lib.ListN.{length}
+use borrow.Author.Tests.{eqb-true, eqb-false, ltb-true, ltb-false}
+use Rattle.protocol.specs.Median.{orderedAt, isEven, median}
+use Rattle.protocol.proofs.Tests.{cases, cond-elim}
+use Rattle.protocol.proofs.Ranks.{Every, count, isBelow, count-le, below-rises, place-holds, past-last, few-below, more-upto, SameNumbers, same-length, same-place}
 
--- P holds of every element
-abbrev pub Every : {A : Type 0} → (A → Type 0) → List A → Type 0
-Every P [] = Unit {0}
-Every P (x ∷ l) = P x × Every P l
+-- THE TWO MIDDLE ONES, which are one where the count is odd
 
--- and so of what stands at an index, if of the default too where that is beyond the list
-pub every-at : {A : Type 0} (P : A → Type 0) (l : List A) (i : ℕ) {d : A} → (length l ≤ i → P d) → Every P l → P (getD l i d)
-every-at P [] i h e = h (omega arith)
-every-at P (x ∷ l) zero h e = e .0
-every-at P (x ∷ l) (suc i) h e = every-at P l i (λ b. h (omega arith)) (e .1)
+abbrev pub lower : List ℕ → ℕ
+lower l = orderedAt ((length l - 1) / 2) l
 
--- IN ORDER
+abbrev pub upper : List ℕ → ℕ
+upper l = orderedAt (length l / 2) l
 
-pub every-insert : (P : ℕ → Type 0) (x : ℕ) (l : List ℕ) → P x → Every P l → Every P (insert x l)
-every-insert P x [] h e = (h, e)
-every-insert P x (y ∷ l) h e = cond-elim (Every P) (leb x y) (λ _. (h, e)) (λ _. (e .0, every-insert P x l h (e .1)))
-
-every-in-order : (P : ℕ → Type 0) (l : List ℕ) → Every P l → Every P (inOrder l)
-every-in-order P [] e = e
-every-in-order P (x ∷ l) e = every-insert P x (inOrder l) (e .0) (every-in-order P l (e .1))
-
-length-insert : (x : ℕ) (l : List ℕ) → length (insert x l) ≡ suc (length l)
-length-insert x [] = refl
-length-insert x (y ∷ l) = cond-elim (λ (m : List ℕ). length m ≡ suc (suc (length l))) (leb x y) (λ _. refl) (λ _. ap suc (length-insert x l))
-
-pub length-in-order : (l : List ℕ) → length (inOrder l) ≡ length l
-length-in-order [] = refl
-length-in-order (x ∷ l) = length-insert x (inOrder l) ∙ ap suc (length-in-order l)
-
--- THE MEDIAN, which is 0 where there is no number
-
-pub median-holds : (P : ℕ → Type 0) (l : List ℕ) → (length l ≡ 0 → P 0) → Every P l → P (median l)
+pub median-halves : (l : List ℕ) → median l ≡ (lower l + upper l) / 2
 unfolding median
-median-holds P l h e = every-at P (inOrder l) ((length l - 1) / 2) (λ b. h (omega (arith, length-in-order l))) (every-in-order P l e)
+median-halves l =
+    cond-elim (λ (m : ℕ). m ≡ (lower l + upper l) / 2) (isEven (length l))
+    (λ t. let even : length l % 2 ≡ 0 = eqb-true _ _ t in (let same : orderedAt (length l / 2 - 1) l ≡ lower l = ap (λ (i : ℕ). orderedAt i l) (omega arith) in omega arith))
+    (λ t. let odd = eqb-false (length l % 2) 0 t in (let same : upper l ≡ lower l = ap (λ (i : ℕ). orderedAt i l) (omega arith) in omega arith))
+
+-- with an odd count it is the middle one; of no number it is 0
+pub median-odd : (l : List ℕ) → length l % 2 ≡ 1 → median l ≡ lower l
+median-odd l odd =
+    let same : upper l ≡ lower l = ap (λ (i : ℕ). orderedAt i l) (omega arith) in
+    omega (arith, median-halves l)
+
+pub median-none : (l : List ℕ) → length l ≡ 0 → median l ≡ 0
+median-none l none = omega (arith, median-halves l, past-last l ((length l - 1) / 2) (omega arith), past-last l (length l / 2) (omega arith))
+
+middle-rises : (l : List ℕ) → lower l ≤ upper l
+middle-rises l =
+    cases (ltb 0 (length l)) (λ t. some (ltb-true 0 (length l) t))
+    (λ t. let none = ltb-false 0 (length l) t in omega (arith, past-last l ((length l - 1) / 2) (omega arith)))
+  where
+    some : 0 < length l → lower l ≤ upper l
+    some h =
+        cases (ltb (upper l) (lower l))
+        (λ t. let less = ltb-true (upper l) (lower l) t in absurd (omega (
+          arith,
+          below-rises (suc (upper l)) (lower l) l less,
+          few-below l ((length l - 1) / 2) (omega arith),
+          more-upto l (length l / 2) (omega arith),
+        )))
+        (λ t. ltb-false (upper l) (lower l) t)
+
+pub median-middle : (l : List ℕ) → (lower l ≤ median l) × (median l ≤ upper l)
+median-middle l = (omega (arith, median-halves l, middle-rises l), omega (arith, median-halves l, middle-rises l))
+
+-- BETWEEN THE LEAST AND THE GREATEST
 
 pub median-between : (low high : ℕ) (l : List ℕ) → 0 < length l → Every (λ x. (low ≤ x) × (x ≤ high)) l → (low ≤ median l) × (median l ≤ high)
-median-between low high l h = median-holds (λ x. (low ≤ x) × (x ≤ high)) l (λ z. absurd (omega arith))
+median-between low high l h e =
+    let place : (i : ℕ) → i < length l → (low ≤ orderedAt i l) × (orderedAt i l ≤ high) = λ i b. place-holds (λ x. (low ≤ x) × (x ≤ high)) l i (λ z. absurd (omega arith)) e in
+    (omega (arith, median-middle l, place ((length l - 1) / 2) (omega arith)), omega (arith, median-middle l, place (length l / 2) (omega arith)))
+
+pub median-below : (b : ℕ) (l : List ℕ) → 0 < b → Every (λ x. x < b) l → median l < b
+median-below b l h e = omega (arith, median-middle l, place-holds (λ x. x < b) l (length l / 2) (λ _. h) e)
+
+-- HALF OF THE NUMBERS on either side
+
+pub half-below : (l : List ℕ) → 2 * count (isBelow (median l)) l ≤ length l
+half-below l =
+    cases (ltb 0 (length l))
+    (λ t. let some = ltb-true 0 (length l) t in omega (arith, below-rises (median l) (upper l) l (median-middle l .1), few-below l (length l / 2) (omega arith)))
+    (λ t. let none = ltb-false 0 (length l) t in omega (arith, count-le (isBelow (median l)) l))
+
+pub half-upto : (l : List ℕ) → length l ≤ 2 * count (isBelow (suc (median l))) l
+half-upto l =
+    cases (ltb 0 (length l))
+    (λ t. let some = ltb-true 0 (length l) t in let less = median-middle l .0 in omega (
+      arith,
+      below-rises (suc (lower l)) (suc (median l)) l (omega arith),
+      more-upto l ((length l - 1) / 2) (omega arith),
+    ))
+    (λ t. let none = ltb-false 0 (length l) t in omega arith)
+
+-- IN ANY ORDER
+
+pub median-any-order : (l m : List ℕ) → SameNumbers l m → median l ≡ median m
+median-any-order l m same =
+    median-halves l ∙ (rw (same-length l m same) (ap₂ (λ (x y : ℕ). (x + y) / 2) (same-place l m same _) (same-place l m same _))) ∙ sym (median-halves m)

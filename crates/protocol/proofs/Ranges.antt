@@ -4,7 +4,7 @@
 -- those that it asks for. A head that sends names itself or whom the frame named, and each choice outranks the last one, so that with k frames
 -- sent the choice is at most n − k. An adjustment is carried, or it is a median of readings in range. After any vote the other
 -- readings that are left are for the candidate, whatever was kept; no other action brings one for another.
--- Main results: `in-range`, `range-test`, `median-in`, `effect-in-range`, `take-in-range`, `step-in-range`,
+-- Main results: `in-range`, `range-test`, `effect-in-range`, `take-in-range`, `step-in-range`,
 -- `fresh-in-range`, `run-in-range`, `frames-in-range`, `votes-below`.
 use mathlib.Core.Path.{_≡_, refl, sym, _∙_, ap, subst}
 use mathlib.Core.Bool.{Bool, true, false, cond, not, _&&_, _||_}
@@ -25,8 +25,9 @@ use Rattle.protocol.specs.Median.{median}
 use Rattle.protocol.specs.Step.{withVoteReading, withCandidate, withAdjuster, withLast, keepVote, keptFor, dropOthers, accepted, vote, adjust, prepend, voteReadings, outranks, candidateAfter, effect, isClosed, mayClose, closeEarly, concluded, isTested, act, takenAs, takeAction, actionsOf, actionOf, inputFits, step}
 use Rattle.protocol.specs.Run.{History, recordOf, isDeliveredBy, orElse, frameSent, carriedReading}
 use Rattle.protocol.proofs.Tests.{absurd-bool, cases, cond-elim, not-true, not-false, parts, and-left, and-right, and-both, or-left, or-right, or-first, or-second, or-cases, implied, implies, all-below, below-all}
-use Rattle.protocol.proofs.Medians.{every-at, median-holds}
-pub use Rattle.protocol.proofs.Medians.{Every}
+use Rattle.protocol.proofs.Ranks.{every-at}
+pub use Rattle.protocol.proofs.Ranks.{Every}
+use Rattle.protocol.proofs.Medians.{median-below}
 use Rattle.protocol.proofs.Effects.{Kind, votes, adjusts, phaseOf, takenOf, latestOf, number, passedOver, namedIn, sendingOf, column-kept, set-keeps, kept-for-at, Delivery, noDelivery, deliveryIn, serialOf, named, set-holds, ignored, keptAfter, prepared, Sending, nothing, voting, adjusting, send, effect-split, Why, itself, told, Naming, Source, computed, passed-on, Allowed, sends-nothing, sends-start, sends-vote, sends-adjust, no-number, allowed, none-is-some, closed-last, earlyNow, taken-as, taken-delivery}
 use Rattle.protocol.proofs.Effects as Effects
 use Rattle.protocol.proofs.Valid.{baseOf, Valid, start, more, heads-fit, record-at, record-other, by-head, delivery-at, fixed}
@@ -198,10 +199,7 @@ range-test {r} h =
     and-both heads (and-both (lt-ltb _ _ (h .own)) (and-both (lt-ltb _ _ (h .last)) (and-both (lt-ltb _ _ (h .adjustment)) (and-both (adjustment-test _ _ (h .unadjusted))
     (and-both (phase votes) (and-both (phase adjusts) (and-both marks (below-all 16 (keptTest r) (kept-test h)))))))))
 
--- THE MEDIAN of numbers below a bound is below it
-
-pub median-in : (b : ℕ) (l : List ℕ) → 0 < b → Every (λ x. x < b) l → median l < b
-median-in b l h e = median-holds (λ x. x < b) l (λ _. h) e
+-- THE VOTE READINGS
 
 -- what holds of each vote reading that is held holds of every number that the median is taken of
 pub every-vote-reading : (P : ℕ → Type 0) (r : HeadRecord) (k : ℕ) → ((p : ℕ) → p < k → (x : Reading) → voteOf r p ≡ SomeReading x → P (x .0)) → Every P (voteReadings r k)
@@ -332,7 +330,7 @@ module _ {r : HeadRecord} (a : Action) (h : InRange r) (i : ActionInRange (r .n)
   allowed-in-range k {c} s = chosen-in-range (r .n) c (phaseOf k r .choice) (phaseOf k r .sent) (named-below (s .why)) (s .higher) (h .phase k)
 
   source-below : {x : Reading} → Source r a x → x .0 < 2 ^ 28
-  source-below (computed _ e) = subst (λ (y : Reading). y .0 < 2 ^ 28) (sym e) (median-in (2 ^ 28) _ (lit< tt) (vote-readings-below (prepared r a) prepared-kept))
+  source-below (computed _ e) = subst (λ (y : Reading). y .0 < 2 ^ 28) (sym e) (median-below (2 ^ 28) _ (lit< tt) (vote-readings-below (prepared r a) prepared-kept))
   source-below (passed-on _ e) = subst (λ (y : OptReading). readingOr0 y < 2 ^ 28) e (i .frame .reading)
 
   send-in-range : {x : Sending} → Allowed r a x → Counted (send x (prepared r a) .after) → AnswerInRange (r .n) (send x (prepared r a))

@@ -58,15 +58,15 @@ clockAfter g e (ran h) = signed (correctedClock (recordOf g h (e .head)) (e .rea
 unfoldable pub lookAt : List ℕ → ℕ → List ℕ
 lookAt ws i = clockAfter (settingAt ws) (entryAt ws i) (runSheet ws)
 
--- in ASCII: "The looks show 4000 and 3997"; and the lines that the program prints for M1, `0 2 0 0 1260 1260 0`,
--- `1 2 0 0 1260 1313 -53` and `premises 0`
+-- in ASCII: "its looks 4026 and 4023" (document 02, No. 6); and the lines that the program prints for M1, with the adjustment and
+-- the corrections of that request: `0 2 0 0 1286 1260 26`, `1 2 0 0 1286 1313 -27` and `premises 0`
 abbrev pub m1Looks : List ℕ
-m1Looks = 52 ∷ 48 ∷ 48 ∷ 48 ∷ 51 ∷ 57 ∷ 57 ∷ 55 ∷ []
+m1Looks = 52 ∷ 48 ∷ 50 ∷ 54 ∷ 52 ∷ 48 ∷ 50 ∷ 51 ∷ []
 
 abbrev pub m1Lines : List ℕ
 m1Lines =
-    48 ∷ 32 ∷ 50 ∷ 32 ∷ 48 ∷ 32 ∷ 48 ∷ 32 ∷ 49 ∷ 50 ∷ 54 ∷ 48 ∷ 32 ∷ 49 ∷ 50 ∷ 54 ∷ 48 ∷ 32 ∷ 48 ∷ 10
-    ∷ 49 ∷ 32 ∷ 50 ∷ 32 ∷ 48 ∷ 32 ∷ 48 ∷ 32 ∷ 49 ∷ 50 ∷ 54 ∷ 48 ∷ 32 ∷ 49 ∷ 51 ∷ 49 ∷ 51 ∷ 32 ∷ 45 ∷ 53 ∷ 51 ∷ 10
+    48 ∷ 32 ∷ 50 ∷ 32 ∷ 48 ∷ 32 ∷ 48 ∷ 32 ∷ 49 ∷ 50 ∷ 56 ∷ 54 ∷ 32 ∷ 49 ∷ 50 ∷ 54 ∷ 48 ∷ 32 ∷ 50 ∷ 54 ∷ 10
+    ∷ 49 ∷ 32 ∷ 50 ∷ 32 ∷ 48 ∷ 32 ∷ 48 ∷ 32 ∷ 49 ∷ 50 ∷ 56 ∷ 54 ∷ 32 ∷ 49 ∷ 51 ∷ 49 ∷ 51 ∷ 32 ∷ 45 ∷ 50 ∷ 55 ∷ 10
     ∷ 112 ∷ 114 ∷ 101 ∷ 109 ∷ 105 ∷ 115 ∷ 101 ∷ 115 ∷ 32 ∷ 48 ∷ 10 ∷ []
 
 -- what the definitions give, and what the documents say. An answer's numbers are its cause, its place and, of the judge,
@@ -80,15 +80,16 @@ gives found expected = record { found = found; expected = expected }
 
 unfoldable pub marked : List Case
 marked =
-    -- M1: the result words and the buffer's seventh word, kept; the premises; the two looks; the printed lines
+    -- M1: the result words, in which document 02, No. 6 makes the kind 7 words 0x70000506, and the buffer's seventh word, kept; the
+    -- premises; the two looks; the printed lines
     gives (replayed (replay (m1 0x2064000A) (replicate 7 1)) ++ judgedNumbers (judge (m1 0x2064000A))
     ++ lookAt (m1 0x2064000A) 19 ++ lookAt (m1 0x2064000A) 20 ++ printSheet (m1 0x2064000A))
-    (0 ∷ 0 ∷ 0x62000000 ∷ 0x700004EC ∷ 0x800004EC ∷ 0x62100000 ∷ 0x700004EC ∷ 0x80000521 ∷ 1 ∷ 0 ∷ 0 ∷ 0 ∷ m1Looks ++ m1Lines)
+    (0 ∷ 0 ∷ 0x62000000 ∷ 0x70000506 ∷ 0x800004EC ∷ 0x62100000 ∷ 0x70000506 ∷ 0x80000521 ∷ 1 ∷ 0 ∷ 0 ∷ 0 ∷ m1Looks ++ m1Lines)
     -- "M2: M1 with tightness 4 keeps all; M3: with 2, premise 3 is broken"
     ∷ gives (judgedNumbers (judge (m1 0x20640004))) (0 ∷ 0 ∷ 0 ∷ [])
     ∷ gives (judgedNumbers (judge (m1 0x20640002))) (0 ∷ 0 ∷ 3 ∷ [])
-    -- "M4: median of 1313, 1260 is 1260; M5: of 5, 9, 7 is 7"
-    ∷ gives (median (1313 ∷ 1260 ∷ []) ∷ []) (1260 ∷ [])
+    -- "M4: median of 1313, 1260" "becomes 1286" (document 02, No. 6); "M5: of 5, 9, 7 is 7"
+    ∷ gives (median (1313 ∷ 1260 ∷ []) ∷ []) (1286 ∷ [])
     ∷ gives (median (5 ∷ 9 ∷ 7 ∷ []) ∷ []) (7 ∷ [])
     -- "M6: first word 0x1042000F is cause 3; M7: 0x1052001F isn't": with no entries, premise 4 is broken
     ∷ gives (judgedNumbers (judge (0x1042000F ∷ 0x2064000A ∷ []))) (3 ∷ 0 ∷ 0 ∷ [])

@@ -2,10 +2,12 @@
 //! at one head of the proved static library and of the reference, and compares all
 //! that can be seen of both after each. Now and then the record's memory is damaged
 //! first, or made one to which all have spoken, one with a vote reading beside any
-//! latest vote, or one whose latest votes name a higher rank than its candidate. Stops
-//! at the first difference; fails too if 1,000,000 actions or more never had one of the
-//! early closes, a spent action, one of the ways with readings of another candidate, or
-//! a refusal for one of the memory's numbers. Built with the feature `board`.
+//! latest vote, one whose latest votes name a higher rank than its candidate, or one at
+//! its adjust turn with any number of vote readings. Stops at the first difference;
+//! fails too if 1,000,000 actions or more never had one of the early closes, a spent
+//! action, one of the ways with readings of another candidate, the median of one of the
+//! counts up to 16 or of one of the ways with an even count, or a refusal for one of the
+//! memory's numbers. Built with the feature `board`.
 
 use std::collections::BTreeMap;
 use std::process::ExitCode;
@@ -13,10 +15,11 @@ use std::process::ExitCode;
 use reference::ask::seed_and_count;
 use reference::board::{all_spoken, edges, same_counter, with_vote};
 use reference::board::{Both, InputNumbers, NUMBERS};
+use reference::medians::{draw_readings, evens, EVENS};
 use reference::random::Random;
 use reference::record::Record;
-use reference::step::is_spent;
-use reference::words::MAX_HEADS;
+use reference::step::{is_closed, is_spent};
+use reference::words::{Reading, MAX_HEADS, TIME_LIMIT};
 
 /// From this many actions on, all that can be met must have been.
 const ENOUGH: u64 = 1_000_000;
@@ -47,6 +50,7 @@ struct Tally {
     /// Early closes of both by the same action.
     at_once: u64,
     candidates: Candidates,
+    medians: Medians,
 }
 
 /// Actions by what they did with readings of another candidate.
@@ -155,6 +159,60 @@ impl Candidates {
     }
 }
 
+/// Adjust turns by what they took the median of.
+#[derive(Default)]
+struct Medians {
+    /// By the count of readings.
+    counts: [u64; MAX_HEADS + 1],
+    /// Of an even count, by what the readings are.
+    evens: BTreeMap<&'static str, u64>,
+    /// Records refused for vote readings of 2²⁸ or more alone.
+    beyond: u64,
+}
+
+impl Medians {
+    fn accepted(&mut self, numbers: &InputNumbers, before: &Record, after: &Record) {
+        if numbers[0] == 7 && before.adjuster.is_none() && after.adjuster.is_some() {
+            let readings = before.vote_readings();
+            self.counts[readings.len()] += 1;
+            for name in evens(&readings) {
+                *self.evens.entry(name).or_default() += 1;
+            }
+        }
+    }
+
+    fn refused(&mut self, record: &Record) {
+        let mut rest = record.clone();
+        for kept in &mut rest.kept {
+            kept.vote_reading = kept.vote_reading.map(|r| Reading(r.0 % TIME_LIMIT));
+        }
+        self.beyond += u64::from(rest != *record && rest.in_ranges());
+    }
+
+    fn missing(&self) -> Vec<String> {
+        let counts = (1..=MAX_HEADS).filter(|&count| self.counts[count] == 0);
+        let evens = EVENS.into_iter().filter(|e| !self.evens.contains_key(e));
+        let beyond = (self.beyond == 0).then(|| "refusal for a vote reading of 2²⁸".into());
+        counts
+            .map(|count| format!("median of {count}"))
+            .chain(evens.map(String::from))
+            .chain(beyond)
+            .collect()
+    }
+
+    fn print(&self) {
+        println!("medians, by 1 to 16 readings: {:?}", &self.counts[1..]);
+        for name in EVENS {
+            let turns = self.evens.get(name).copied().unwrap_or(0);
+            println!("{turns:>9}  {name}");
+        }
+        println!(
+            "records refused for vote readings of 2²⁸ or more alone: {}",
+            self.beyond
+        );
+    }
+}
+
 impl Tally {
     /// What closed early, or was spent, at an accepted action.
     fn early(&mut self, action: usize, before: &Record, after: &Record) {
@@ -166,7 +224,7 @@ impl Tally {
         self.at_once += u64::from(votes && adjusts);
     }
 
-    /// What was never met of early closes, candidates and damage.
+    /// What was never met of early closes, candidates, medians and damage.
     fn missing(&self) -> Vec<String> {
         let name = |what: &str, number: usize| format!("{what} {number}");
         let refused = |&index: &usize| self.alone.get(&index).is_none_or(|p| p[0] == 0);
@@ -179,6 +237,7 @@ impl Tally {
             .chain(spent.map(|a| name("spent", a)))
             .chain((self.at_once == 0).then(|| "both at once".into()))
             .chain(self.candidates.missing())
+            .chain(self.medians.missing())
             .chain(
                 (0..NUMBERS)
                     .filter(refused)
@@ -348,6 +407,34 @@ fn named_ahead(random: &mut Random, both: &Both, record: &Record) -> Both {
     both.damaged(head)
 }
 
+/// A copy of the head at its adjust turn, with a candidate, no adjuster and some vote
+/// readings; at times one of them is 2²⁸ or more.
+fn before_turn(random: &mut Random, both: &Both, record: &Record) -> Both {
+    let mut head = both.head;
+    let n = record.n as usize;
+    if record.candidate.is_none() {
+        head[1] |= 64;
+        head[2] = 1 + random.below(record.n.into()) as u32;
+        head[3] = 1;
+    }
+    // Vote close, but neither adjust turn nor adjust close.
+    head[1] = head[1] & !(16 | 32) | 8;
+    head[4..7].fill(0);
+    head[11] = 0;
+    let any = 1 + random.index(n);
+    let count = random.pick(&[2, n, any]);
+    let mut senders: Vec<usize> = (0..n).collect();
+    random.shuffle(&mut senders);
+    head[32..48].fill(0);
+    for (&sender, reading) in senders.iter().zip(draw_readings(random, count)) {
+        head = with_vote(&head, sender, 1 + reading, head[2]);
+    }
+    if random.chance(1, 8) {
+        head[32 + senders[0]] = random.pick(&[1 + TIME_LIMIT, 1 << 29, 1 << 31, u32::MAX]);
+    }
+    both.damaged(head)
+}
+
 /// A copy of the head to which all have spoken; at times its phases are opened again.
 /// It has sent and confirmed its start, and taken its turn, as may be.
 fn spoken(random: &mut Random, both: &Both) -> Both {
@@ -377,10 +464,11 @@ fn spoken(random: &mut Random, both: &Both) -> Both {
 /// A copy of the head with one to three numbers of its memory changed, and the
 /// index if it is one.
 fn damage(random: &mut Random, both: &Both, record: &Record) -> (Both, Option<usize>) {
-    match random.below(8) {
+    match random.below(10) {
         0 | 1 => return (spoken(random, both), None),
         2 => return (voted(random, both, record), None),
         3 => return (named_ahead(random, both, record), None),
+        4 | 5 => return (before_turn(random, both, record), None),
         _ => {}
     }
     let mut head = both.head;
@@ -398,7 +486,7 @@ fn damage(random: &mut Random, both: &Both, record: &Record) -> (Both, Option<us
     (both.damaged(head), (changes == 1).then_some(index))
 }
 
-/// One action at both, with what it meets of early closes and candidates.
+/// One action at both, with what it meets of early closes, candidates and medians.
 fn act(both: &mut Both, numbers: &InputNumbers, tally: &mut Tally) -> Result<u32, String> {
     let before = both.record.clone();
     let cause = both.act(numbers)?;
@@ -406,8 +494,12 @@ fn act(both: &mut Both, numbers: &InputNumbers, tally: &mut Tally) -> Result<u32
         (0, Some(before), Some(after)) => {
             tally.early(numbers[0] as usize, before, after);
             tally.candidates.accepted(numbers, before, after);
+            tally.medians.accepted(numbers, before, after);
         }
-        (10, Some(before), _) => tally.candidates.refused(before),
+        (10, Some(before), _) => {
+            tally.candidates.refused(before);
+            tally.medians.refused(before);
+        }
         _ => {}
     }
     Ok(cause)
@@ -424,7 +516,11 @@ fn act_damaged(
     let (mut other, index) = damage(random, both, record);
     let changed = other.head != both.head;
     let drawn = other.record.as_ref().unwrap_or(record);
-    let numbers = if other.in_ranges() && random.chance(1, 3) {
+    let may_adjust =
+        drawn.candidate.is_some() && drawn.adjuster.is_none() && !is_closed(drawn, 7, 0);
+    let numbers = if may_adjust && random.chance(1, 2) {
+        [7, drawn.last_reading.0, 0, 0, 0, 0, 0]
+    } else if other.in_ranges() && random.chance(1, 3) {
         lead(random, drawn)
     } else {
         draw(random, drawn)
@@ -525,6 +621,7 @@ fn main() -> ExitCode {
     );
     println!("spent: {:?}", tally.spent);
     tally.candidates.print();
+    tally.medians.print();
     let missing = tally.missing();
     if tally.actions >= ENOUGH && !missing.is_empty() {
         println!("never met: {}", missing.join(", "));

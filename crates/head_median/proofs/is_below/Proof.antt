@@ -1,29 +1,20 @@
-use Rattle.head_median.specs.Readings.{holds}
-use Prim.Native.Nat.{_-_, _≤_, _<_}
-use borrow.Author.Tests.{eq-eqb, ne-eqb, lt-ltb, le-ltb}
+use mathlib.Core.Path.{sym, _∙_, ap}
+use borrow.Author.Tests.{lt-ltb, le-ltb}
+use Rattle.protocol.proofs.Ranks.{bit}
+use Rattle.head_median.proofs.Counts.{below-test}
 use native.Mathlib.Omega.{arith}
+use borrow.Author.Needs.{needs}
 use Rattle.head_median.proofs.is_below.Statement.{statement}
 use Rattle.head_median.proofs.is_below.Tie as tie
 
+reading-of-requires : tie.Need-reading-of-requires
+reading-of-requires c κs = search needs
+
 returns : tie.Need-returns
-unfolding holds
-returns c = simp (eq-eqb _ _ (c .if1 .taken))
+returns c = ap bit (sym (lt-ltb _ _ (c .if1 .taken)) ∙ below-test _ _ _ (c .before .reading-of .ensures .0) (omega arith))
 
 returns-2 : tie.Need-returns-2
-unfolding holds
-returns-2 c =
-    let y = c .before .before .args .y in
-    let x = c .before .before .args .x in
-    let less : y - 1 < x - 1 = omega arith in
-    simp (ne-eqb _ _ (c .before .if1 .left), lt-ltb _ _ less)
-
-returns-3 : tie.Need-returns-3
-unfolding holds
-returns-3 c =
-    let y = c .before .before .args .y in
-    let x = c .before .before .args .x in
-    let more : x - 1 ≤ y - 1 = omega arith in
-    simp (ne-eqb _ _ (c .before .if1 .left), le-ltb _ _ more)
+returns-2 c = ap bit (sym (le-ltb _ _ (c .if1 .left)) ∙ below-test _ _ _ (c .before .reading-of .ensures .0) (omega arith))
 
 pub is-below-spec : {M : Type 1} → statement M
-is-below-spec = tie.close (tie.spec returns returns-2 returns-3)
+is-below-spec = tie.close (tie.spec reading-of-requires returns returns-2)

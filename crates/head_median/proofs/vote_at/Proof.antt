@@ -1,6 +1,7 @@
 use mathlib.Core.Path.{_≡_, sym, _∙_, ap}
 use Prim.Native.Nat.{_-_, _≤_}
-use Rattle.head_median.specs.Ranks.{bit, covers}
+use Rattle.protocol.proofs.Ranks.{bit}
+use Rattle.head_median.specs.Ranks.{covers}
 use Rattle.head_median.specs.Readings.{headsIn, heldIn, readingsIn}
 use Rattle.head_median.proofs.Counts.{held-next, vote-found, none-found}
 use native.Mathlib.Omega.{arith}
@@ -34,11 +35,13 @@ element-copy-out-x c = search needs
 stands-at-requires : tie.Need-stands-at-requires Inv-loop μ-loop
 stands-at-requires c κs = search needs
 
-sub-result : tie.Need-sub-result Inv-loop μ-loop
-sub-result c = omega (arith, vote-found _ _ _ (sym (c .before .stands-at .ensures) ∙ c .if1 .taken) .0)
+reading-of-requires : tie.Need-reading-of-requires Inv-loop μ-loop
+reading-of-requires c κs = search needs
 
 returns : tie.Need-returns Inv-loop μ-loop
-returns c = vote-found _ _ _ (sym (c .before .stands-at .ensures) ∙ c .if1 .taken) .1
+returns c =
+    let found = vote-found _ _ _ (sym (c .before .before .stands-at .ensures) ∙ c .before .if1 .taken) in
+    (c .reading-of .ensures .0 ∙ found .1, c .reading-of .ensures .1 (found .0))
 
 add-p : tie.Need-add-p Inv-loop μ-loop
 add-p c = search needs
@@ -52,7 +55,7 @@ loop-again c = (search needs, held-next _ _ _ _ _ 0 (c .before .before .before .
 returns-2 : tie.Need-returns-2 Inv-loop μ-loop
 returns-2 c =
     let end : c .before .loop .p ≡ c .before .before .heads-in .result = omega arith in
-    none-found _ _ _ (c .before .loop .inv .1) (end ∙ c .before .before .heads-in .ensures .0)
+    (none-found _ _ _ (c .before .loop .inv .1) (end ∙ c .before .before .heads-in .ensures .0), omega arith)
 
 pub vote-at-spec : {M : Type 1} → statement M
 vote-at-spec =
@@ -66,7 +69,7 @@ vote-at-spec =
     mul-x
     element-copy-out-x
     stands-at-requires
-    sub-result
+    reading-of-requires
     returns
     add-p
     loop-less
