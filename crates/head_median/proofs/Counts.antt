@@ -18,7 +18,7 @@ use Rattle.protocol.proofs.Tests.{absurd-bool, cases, cond-elim}
 use Rattle.protocol.proofs.Ranks.{bit, bit-le, count, isBelow}
 use Rattle.head_median.specs.Ranks.{covers, none, numberFrom, lesserOf, leastFrom}
 use Rattle.head_median.specs.Readings.{headsIn, holds, heldIn, readingsIn}
-use Rattle.head_median.proofs.Ranks.{covered-stands, none-covers, least-top}
+use Rattle.head_median.proofs.Ranks.{covers-stands, none-covers, least-top}
 
 one-more : (b : Bool) (n : ℕ) → cond b (n + 1) n ≡ n + bit b
 one-more true n = refl
@@ -80,7 +80,7 @@ pub vote-found : (l : List ℕ) (index x : ℕ) → holds (covers index l) x ≡
 unfolding holds
 vote-found l index x =
     cases (eqb x 0) (λ z e. absurd-bool (rw z at e) refl)
-    (λ z e. (omega (arith, eqb-false x 0 z), rw z (covered-stands l index (x - 1) (rw z at e))))
+    (λ z e. (omega (arith, eqb-false x 0 z), rw z (covers-stands l index (x - 1) (rw z at e))))
 
 -- and where none does, the index is beyond the readings
 pub none-found : (w : List ℕ) (index p : ℕ) → 0 ≡ heldIn (covers index (readingsIn w (headsIn w))) w 32 p → p ≡ headsIn w

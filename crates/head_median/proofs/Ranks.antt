@@ -1,4 +1,4 @@
--- The number whose rank covers an index stands there in order (`covered-stands`), and an index that none covers is beyond the
+-- The number whose rank covers an index stands there in order (`covers-stands`), and an index that none covers is beyond the
 -- list (`none-covers`). What stands at the next index is the same number, or the least above it (`same-follows`,
 -- `least-follows`); so the median of an even count is found from its lower middle one (`same-middle`, `least-middle`).
 use mathlib.Core.Path.{_≡_, refl, sym, _∙_, ap}
@@ -18,9 +18,9 @@ use Rattle.head_median.specs.Ranks.{covers, none, numberFrom, lesserOf, 
 
 -- THE NUMBER AT AN INDEX
 
-pub covered-stands : (l : List ℕ) (i x : ℕ) → covers i l x ≡ true → x ≡ orderedAt i l
+pub covers-stands : (l : List ℕ) (i x : ℕ) → covers i l x ≡ true → x ≡ orderedAt i l
 unfolding covers
-covered-stands l i x e =
+covers-stands l i x e =
     stands-in-order l i x (leb-true (count (isBelow x) l) i (and-left (leb (count (isBelow x) l) i) _ e))
     (ltb-true i (count (isBelow (suc x)) l) (and-right (leb (count (isBelow x) l) i) _ e))
 

@@ -21,18 +21,19 @@ lower l = orderedAt ((length l - 1) / 2) l
 abbrev pub upper : List ℕ → ℕ
 upper l = orderedAt (length l / 2) l
 
+one-middle : (l : List ℕ) → length l % 2 ≡ 1 → upper l ≡ lower l
+one-middle l odd = ap (λ (i : ℕ). orderedAt i l) (omega arith)
+
 pub median-halves : (l : List ℕ) → median l ≡ (lower l + upper l) / 2
 unfolding median
 median-halves l =
     cond-elim (λ (m : ℕ). m ≡ (lower l + upper l) / 2) (isEven (length l))
     (λ t. let even : length l % 2 ≡ 0 = eqb-true _ _ t in (let same : orderedAt (length l / 2 - 1) l ≡ lower l = ap (λ (i : ℕ). orderedAt i l) (omega arith) in omega arith))
-    (λ t. let odd = eqb-false (length l % 2) 0 t in (let same : upper l ≡ lower l = ap (λ (i : ℕ). orderedAt i l) (omega arith) in omega arith))
+    (λ t. let odd = eqb-false (length l % 2) 0 t in omega (arith, one-middle l (omega arith)))
 
 -- with an odd count it is the middle one; of no number it is 0
 pub median-odd : (l : List ℕ) → length l % 2 ≡ 1 → median l ≡ lower l
-median-odd l odd =
-    let same : upper l ≡ lower l = ap (λ (i : ℕ). orderedAt i l) (omega arith) in
-    omega (arith, median-halves l)
+median-odd l odd = omega (arith, median-halves l, one-middle l odd)
 
 pub median-none : (l : List ℕ) → length l ≡ 0 → median l ≡ 0
 median-none l none = omega (arith, median-halves l, past-last l ((length l - 1) / 2) (omega arith), past-last l (length l / 2) (omega arith))

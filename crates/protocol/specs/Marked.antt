@@ -91,6 +91,8 @@ marked =
     -- "M4: median of 1313, 1260" "becomes 1286" (document 02, No. 6); "M5: of 5, 9, 7 is 7"
     ∷ gives (median (1313 ∷ 1260 ∷ []) ∷ []) (1286 ∷ [])
     ∷ gives (median (5 ∷ 9 ∷ 7 ∷ []) ∷ []) (7 ∷ [])
+    -- four readings, those of samples/even-count.sheet: half of 1256 + 1277; and with the two middle ones equal
+    ∷ gives (median (1277 ∷ 1220 ∷ 1322 ∷ 1256 ∷ []) ∷ median (20 ∷ 1 ∷ 20 ∷ 90 ∷ []) ∷ []) (1266 ∷ 20 ∷ [])
     -- "M6: first word 0x1042000F is cause 3; M7: 0x1052001F isn't": with no entries, premise 4 is broken
     ∷ gives (judgedNumbers (judge (0x1042000F ∷ 0x2064000A ∷ []))) (3 ∷ 0 ∷ 0 ∷ [])
     ∷ gives (judgedNumbers (judge (0x1052001F ∷ 0x2064000A ∷ []))) (0 ∷ 0 ∷ 4 ∷ [])
