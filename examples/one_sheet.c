@@ -21,35 +21,37 @@ static uint32_t sheet[] = {
 
 #define WORDS (sizeof sheet / sizeof sheet[0])
 #define HEADS 2
-
-static uint32_t bits(uint32_t word, unsigned low)
-{
-    return word >> low & 15;
-}
-
-/* A head's line from its three result words: outcome, head, candidate and adjuster; adjustment; start reading. */
-static void print_head(const uint32_t *w)
-{
-    uint32_t adjustment = w[1] & 0x0FFFFFFF;
-    uint32_t start = w[2] & 0x0FFFFFFF;
-
-    printf("%u %u %u %u %lu %lu %ld\n", (unsigned)bits(w[0], 20), (unsigned)bits(w[0], 24), (unsigned)bits(w[0], 16),
-           (unsigned)bits(w[0], 12), (unsigned long)adjustment, (unsigned long)start, (long)adjustment - (long)start);
-}
+#define RESULT_WORDS (DAISARNICA_WORDS_A_HEAD * HEADS)
 
 static void print_refusal(const char *what, uint32_t cause, uint32_t place)
 {
     printf("%s %lu %lu\n", what, (unsigned long)cause, (unsigned long)place);
 }
 
+/* A head's line: its number, and what the carriage display shows of it, from outcome to correction. */
+static void print_head(uint32_t head, const uint32_t *out)
+{
+    int64_t shown[DAISARNICA_SHOWN_NUMBERS];
+    uint32_t cause = daisarnica_display(HEADS, head, out, RESULT_WORDS, shown);
+    size_t i;
+
+    if (cause != DAISARNICA_READ) {
+        print_refusal("not shown", cause, 0);
+        return;
+    }
+    printf("%lu", (unsigned long)head);
+    for (i = 0; i < DAISARNICA_SHOWN_NUMBERS; i++) printf(" %ld", (long)shown[i]);
+    putchar('\n');
+}
+
 static void show(size_t out_words)
 {
-    uint32_t out[3 * HEADS], answer[DAISARNICA_ANSWER_NUMBERS];
+    uint32_t out[RESULT_WORDS], answer[DAISARNICA_ANSWER_NUMBERS];
     uint32_t judged = daisarnica_replay_and_judge(sheet, WORDS, out, out_words, answer);
-    size_t q;
+    uint32_t q;
 
     if (answer[DAISARNICA_REPLAY_CAUSE] == 0)
-        for (q = 0; q < HEADS; q++) print_head(out + 3 * q);
+        for (q = 0; q < HEADS; q++) print_head(q, out);
     else
         print_refusal("refused", answer[DAISARNICA_REPLAY_CAUSE], answer[DAISARNICA_REPLAY_PLACE]);
     if (judged < DAISARNICA_UNJUDGED)
@@ -60,9 +62,9 @@ static void show(size_t out_words)
 
 int main(void)
 {
-    show(3 * HEADS);
-    show(3 * HEADS - 1);
+    show(RESULT_WORDS);
+    show(RESULT_WORDS - 1);
     sheet[WORDS - 1] |= 1;
-    show(3 * HEADS);
+    show(RESULT_WORDS);
     return 0;
 }

@@ -23,7 +23,8 @@ prints() {
     done
 }
 
-# refuses CAUSE EXAMPLE ARGUMENT..: so the example turns back what it is given, and writes nothing
+# refuses CAUSE EXAMPLE ARGUMENT..: so the example turns back what it is given, and writes nothing; a place may follow the
+# cause
 refuses() {
     cause=$1 name=$2
     shift 2
@@ -45,7 +46,7 @@ drafts() {
 
 build board_c two_boards edges other_candidate
 prints two_boards edges other_candidate
-build sheet_c one_sheet recorder draft
+build sheet_c one_sheet recorder draft bus_load
 prints one_sheet
 
 # M1 from its numbers is M1 word for word, and replays to M1's lines
@@ -73,4 +74,14 @@ done
 "$out/draft" 5 | cmp samples/drafted.sheet -
 refuses 3 draft 17
 refuses 3 draft 16 8 0 0
+
+# the bus load of M1, of a practice sheet, in which every head broadcasts one frame of each sort too, and of sheets in which
+# heads vote again or stop
+for sheet in m1 drafted other-candidate sixteen; do
+    "$out/bus_load" <"samples/$sheet.sheet"
+done >"$out/bus_load.out"
+diff examples/bus_load.expected "$out/bus_load.out"
+refuses "1 0" bus_load <samples/cause-1.sheet
+refuses "2 0" bus_load <samples/cause-2-bytes.sheet
+refuses "9 8" bus_load <samples/cause-9.sheet
 echo ok

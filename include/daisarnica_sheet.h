@@ -1,12 +1,12 @@
 /* daisarnica_sheet.h: whole run sheets for programs written in C: one is written from its fields, drafted for practice, or
- * replayed and judged.
+ * replayed and judged; and two readers of the result words that a replay leaves: a carriage display's and a bus planner's.
  *
  * A call takes no other memory than what is lent to it and at most some 14 KB of stack, has no state between calls, and
  * always returns. It needs memcpy and memset and nothing else.
  *
- * Every input has an answer: what is against the rules is turned back with its cause, and the buffer is then left as it
- * was. What the caller owes: each pointer is to memory of its own that holds as many words as are said, and the parts of
- * one call do not overlap. */
+ * Every input has an answer: what is against the rules is turned back with its cause; the buffer is then left as it was,
+ * and the numbers of a reader are all 0. What the caller owes: each pointer is to memory of its own that holds as many
+ * words or numbers as are said, and the parts of one call do not overlap. */
 #ifndef DAISARNICA_SHEET_H
 #define DAISARNICA_SHEET_H
 
@@ -17,9 +17,10 @@
 extern "C" {
 #endif
 
-/* A sheet has 2 words and 3 for each of at most 4,096 entries. There are 3 result words for each of at most 16 heads. */
+/* A sheet has 2 words and 3 for each of at most 4,096 entries. There are 4 result words for each of at most 16 heads. */
 #define DAISARNICA_SHEET_WORDS 12290
-#define DAISARNICA_RESULT_WORDS 48
+#define DAISARNICA_WORDS_A_HEAD 4
+#define DAISARNICA_RESULT_WORDS 64
 
 /* A recorder gives six numbers for each entry. */
 #define DAISARNICA_ENTRY_NUMBERS 6
@@ -89,8 +90,18 @@ enum {
 #define DAISARNICA_UNJUDGED 16
 
 /* Replays a sheet of so many words, writes the heads' result words into the buffer out of out_words words, and judges
- * the sheet. The replay asks for a buffer of 3 words a head (cause 5); the judge does not. Words of the buffer behind
+ * the sheet. The replay asks for a buffer of 4 words a head (cause 5); the judge does not. Words of the buffer behind
  * the heads' are left as they were.
+ *
+ * The result words come in the order of the heads, four for each. The top four bits of a word are its kind:
+ *   kind 6: outcome in bits 27 to 24, head in 23 to 20, candidate in 19 to 16, adjuster in 15 to 12; the outcome is 0 if the
+ *           adjust phase did not close, 1 if the head adopted no clock, 2 if it did
+ *   kind 7: adjustment in bits 27 to 0
+ *   kind 8: the candidate's start reading in bits 27 to 0
+ *   kind 9: starts in bits 27 to 20, votes in 19 to 12, adjusts in 11 to 4: the frames that the head broadcast, each counted
+ *           once, however often it was delivered
+ * All other bits are 0. Candidate, adjuster, adjustment and start reading are 0 unless the outcome is 2; the counts of kind
+ * 9 stand whatever the outcome.
  *
  * Always writes the five numbers of the answer. Returns the judge's answer in one number: 0 if the sheet keeps all
  * premises, 1 to 8 for the first broken premise, 17 to 25 (DAISARNICA_UNJUDGED + cause) if the sheet is turned back.
@@ -99,6 +110,49 @@ enum {
  * the same candidate, adjuster and adjustment, and their corrected clocks are within the bound. */
 uint32_t daisarnica_replay_and_judge(const uint32_t *sheet, size_t words, uint32_t *out, size_t out_words,
                                      uint32_t answer[DAISARNICA_ANSWER_NUMBERS]);
+
+/* Where the numbers of a reader stand. The display shows the first six, the planner's reader tells all nine. */
+enum {
+    DAISARNICA_OUTCOME = 0,
+    DAISARNICA_CANDIDATE = 1,
+    DAISARNICA_ADJUSTER = 2,
+    DAISARNICA_ADJUSTMENT = 3,
+    DAISARNICA_START_READING = 4,
+    DAISARNICA_CORRECTION = 5, /* adjustment less start reading, signed; 0 unless the outcome is 2 */
+    DAISARNICA_SHOWN_NUMBERS = 6,
+    DAISARNICA_STARTS = 6,
+    DAISARNICA_VOTES = 7,
+    DAISARNICA_ADJUSTS = 8,
+    DAISARNICA_TOLD_NUMBERS = 9
+};
+
+/* The causes for which a reader turns words back; 0 is for words that were read. */
+enum {
+    DAISARNICA_READ = 0,
+    DAISARNICA_WRONG_LENGTH = 2, /* not as many words as n heads have */
+    DAISARNICA_NO_SUCH_HEAD = 3, /* n not 2 to 16, or head not below n */
+    DAISARNICA_WRONG_KIND = 6    /* a word whose kind is not that of its place, of any head's words */
+};
+
+/* The carriage display: shows how the round ended for one head of n, from count result words. It passes over words of
+ * kinds other than 6 to 8, wherever they stand and however many; the others are to be three words a head, of kinds 6, 7
+ * and 8 in this order. So it reads what a replay leaves and also an old file of three words a head, and shows the same.
+ *
+ * Always writes the six numbers. Returns 0 or a cause: the first that applies of 3, 2 and 6, in this order. All numbers are
+ * 0 then. All but the correction are the fields as they stand in the words; the head in a word, a number that is no outcome
+ * and bits that should be 0 are not asked.
+ *
+ * Of what a replay leaves it shows what the program replay prints, for every head below n. */
+uint32_t daisarnica_display(uint32_t n, uint32_t head, const uint32_t *words, size_t count,
+                            int64_t shown[DAISARNICA_SHOWN_NUMBERS]);
+
+/* The planner's reader: tells the same of one head of n, and the frames that it broadcast, from count result words. It
+ * wants all four words a head, of kinds 6, 7, 8 and 9 in this order, and no others.
+ *
+ * Always writes the nine numbers. Returns 0 or a cause, as the display does. Where it returns 0, the display returns 0 for
+ * the same words, and shows the same six numbers. */
+uint32_t daisarnica_plan(uint32_t n, uint32_t head, const uint32_t *words, size_t count,
+                         int64_t told[DAISARNICA_TOLD_NUMBERS]);
 
 #ifdef __cplusplus
 }

@@ -1,7 +1,8 @@
 #!/bin/sh
-# Replay and judge of one sheet, its recording from numbers, and drafts, by the proved static library and by the reference
-# (replay and judge by its fast form), both built for release and called by one program on the same sheets. Prints time and
-# instructions of one call and their ratios; the reference is measured with overflow checks (as it is tested) and without.
+# Replay and judge of one sheet, its recording from numbers, drafts, and both readers of result words, by the proved static
+# library and by the reference (replay and judge by its fast form), both built for release and called by one program on the
+# same sheets. Prints time and instructions of one call and their ratios; the reference is measured with overflow checks (as
+# it is tested) and without.
 set -eu
 cd "$(dirname "$0")/.."
 work=$(mktemp -d)
@@ -45,6 +46,9 @@ for profile in release speed; do
         done
     done
     for heads in 2 5 8 16; do count $profile draft $heads; done
+    for heads in 2 16; do
+        for what in display plan; do count $profile $what $heads; done
+    done
 done
 for sheet in m1 three five full starts; do
     echo "$sheet $(instructions speed $sheet tests) $(instructions speed $sheet record)" >>"$work/parts"
@@ -70,3 +74,11 @@ echo
 table Nanoseconds "$work/time" draft
 echo
 table Instructions "$work/count" draft
+for what in display plan; do
+    echo
+    echo "Reader $what, by the number of heads:"
+    echo
+    table Nanoseconds "$work/time" $what
+    echo
+    table Instructions "$work/count" $what
+done

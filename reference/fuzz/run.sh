@@ -1,6 +1,7 @@
 #!/bin/sh
 # run.sh step|sheet SECONDS [WORDS..]: compares a proved static library with the reference under libFuzzer, the step of one
-# head or replay and judge, until a difference or for so long. WORDS go to the fuzzer. Needs clang with libFuzzer's runtime.
+# head, or replay and judge and both readers of result words, until a difference or for so long. WORDS go to the fuzzer. Needs
+# clang with libFuzzer's runtime.
 # What is built, the inputs kept and an input that shows a difference (crash-*) are in target/fuzz. The counters that guide it
 # are those of the library and of the reference; with COUNTERS=library, of the library alone: cov then says how much of it
 # is reached.

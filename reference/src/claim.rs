@@ -2,9 +2,9 @@
 //! checked on one sheet.
 
 use crate::judge::first_broken;
-use crate::results::HeadResult;
+use crate::results::{read_results, HeadResult, RESULT_WORDS};
 use crate::sheet::{replay, run_observed, Run};
-use crate::words::{Reading, RealTime, MAX_HEADS};
+use crate::words::{Reading, RealTime};
 
 /// One look. "Looked at: any entry of the head, whatever the action, after the
 /// one at which its adjust phase closed."
@@ -48,16 +48,16 @@ pub fn check(words: &[u32]) -> Option<Result<Checked, String>> {
 
 fn check_kept(words: &[u32], run: &Run, looks: &[Look]) -> Result<Checked, String> {
     let correct = run.settings.correct_heads();
-    let mut buffer = [0; 3 * MAX_HEADS];
+    let mut buffer = [0; RESULT_WORDS];
     replay(words, &mut buffer).map_err(|r| format!("refused by cause {}", r.cause.0))?;
+    let told = read_results(&buffer, run.settings.n);
 
     // "the correct heads' words have outcome 2 and the same candidate, adjuster
     // and adjustment", and so have their records.
     let mut results = Vec::new();
     for &head in &correct {
         let record = &run.records[head as usize];
-        let first = 3 * head as usize;
-        let result = HeadResult::read(&buffer[first..first + 3]);
+        let result = told[head as usize];
         if record.outcome() != 2 || result.outcome != 2 {
             return Err(format!("head {head} has outcome {}", record.outcome()));
         }

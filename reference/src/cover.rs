@@ -11,7 +11,7 @@ use crate::judge::{close_indices, first_broken, keeps, keeps_part, parts};
 use crate::medians::{evens, EVENS};
 use crate::program::{printed, read_words};
 use crate::record::Record;
-use crate::results::HeadResult;
+use crate::results::{Broadcast, HeadResult, HEAD_WORDS};
 use crate::sheet::{replay, run, run_observed, Run, Taken};
 use crate::step::{is_spent, Frame};
 use crate::words::{bits, counts_allowed, has_sender, has_serial, kind, read_entry};
@@ -104,6 +104,18 @@ pub const BRANCHES: &[&str] = &[
     "end outcome 2",
     "end correction negative",
     "end correction positive",
+    "end outcome 0, frames sent",
+    "end outcome 0, no frame sent",
+    "end outcome 1, frames sent",
+    "end outcome 1, no frame sent",
+    "end a start and no vote",
+    "end a vote and no start",
+    "end a vote and no adjust",
+    "end an adjust and no vote",
+    "end two votes or more",
+    "end two adjusts or more",
+    "end three votes and three adjusts or more",
+    "end n² + 2n frames of all heads",
     "cause 1",
     "cause 2 bytes",
     "cause 2 fewer than 2 words",
@@ -114,7 +126,8 @@ pub const BRANCHES: &[&str] = &[
     "cause 3 f",
     "cause 3 correct bit",
     "cause 4",
-    "cause 5",
+    "cause 5, room for fewer than three words a head",
+    "cause 5, room for three words a head",
     "cause 6 kind 3",
     "cause 6 kind 4",
     "cause 6 kind 5",
@@ -288,11 +301,9 @@ impl Cover {
         let plain = replay(&words, &mut buffer);
         match (plain, fast::answer(&words, Some(made.buffer))) {
             (Ok(()), Ok((results, _))) => {
-                let read: Vec<HeadResult> = buffer[..3 * results.len()]
-                    .chunks(3)
-                    .map(HeadResult::read)
-                    .collect();
-                if read != results || buffer[3 * results.len()..].iter().any(|&w| w != u32::MAX) {
+                let (told, rest) = buffer.split_at(HEAD_WORDS * results.len());
+                let written: Vec<u32> = results.iter().flat_map(HeadResult::words).collect();
+                if told != written || rest.iter().any(|&w| w != u32::MAX) {
                     return Err("plain and fast have different results".into());
                 }
             }
@@ -320,7 +331,7 @@ impl Cover {
         match (&run, &plain) {
             (Err(refusal), _) | (Ok(_), Err(refusal)) => {
                 self.refused += 1;
-                for name in reasons(&words, *refusal) {
+                for name in reasons(&words, made.buffer, *refusal) {
                     self.count(name);
                 }
             }
@@ -329,17 +340,11 @@ impl Cover {
         let Ok(run) = run else {
             return aimed(made.aim, Err(plain.expect_err("refused")));
         };
-        for record in &run.records {
-            self.count(match record.outcome() {
-                0 => "end outcome 0",
-                1 => "end outcome 1",
-                _ => "end outcome 2",
-            });
-            match (record.outcome(), record.correction()) {
-                (2, Some(c)) if c < 0 => self.count("end correction negative"),
-                (2, Some(c)) if c > 0 => self.count("end correction positive"),
-                _ => {}
-            }
+        for name in (0..run.settings.n).flat_map(|head| ends(&HeadResult::of(&run, head))) {
+            self.count(name);
+        }
+        if all_frames(&run)? {
+            self.count("end n² + 2n frames of all heads");
         }
         let premise = first_broken(&run);
         let name = |prefix: &str| {
@@ -415,6 +420,54 @@ impl Cover {
             Err(refusal) => aimed(made.aim, Err(refusal)),
         }
     }
+}
+
+/// How a head ended, and which frames it broadcast.
+fn ends(result: &HeadResult) -> Vec<&'static str> {
+    let (outcome, correction) = (result.outcome, result.correction());
+    let Broadcast {
+        starts,
+        votes,
+        adjusts,
+    } = result.broadcast;
+    let sent = result.broadcast.frames() > 0;
+    [
+        (outcome == 0, "end outcome 0"),
+        (outcome == 1, "end outcome 1"),
+        (outcome == 2, "end outcome 2"),
+        (correction < 0, "end correction negative"),
+        (correction > 0, "end correction positive"),
+        (outcome == 0 && sent, "end outcome 0, frames sent"),
+        (outcome == 0 && !sent, "end outcome 0, no frame sent"),
+        (outcome == 1 && sent, "end outcome 1, frames sent"),
+        (outcome == 1 && !sent, "end outcome 1, no frame sent"),
+        (starts > 0 && votes == 0, "end a start and no vote"),
+        (starts == 0 && votes > 0, "end a vote and no start"),
+        (votes > 0 && adjusts == 0, "end a vote and no adjust"),
+        (votes == 0 && adjusts > 0, "end an adjust and no vote"),
+        (votes > 1, "end two votes or more"),
+        (adjusts > 1, "end two adjusts or more"),
+        (
+            votes > 2 && adjusts > 2,
+            "end three votes and three adjusts or more",
+        ),
+    ]
+    .into_iter()
+    .filter(|(holds, _)| *holds)
+    .map(|(_, name)| name)
+    .collect()
+}
+
+/// Whether the heads broadcast as many frames as source 000 counts, "at most n² + 2n";
+/// they never broadcast more, though a head may first vote for a lower rank.
+fn all_frames(run: &Run) -> Result<bool, String> {
+    let n = run.settings.n;
+    let frames = (0..n).map(|head| Broadcast::of(run, head).frames());
+    let (all, most) = (frames.sum::<u32>(), n * n + 2 * n);
+    if all > most {
+        return Err(format!("the heads broadcast {all} frames"));
+    }
+    Ok(all == most)
 }
 
 /// The one thing asked by the first broken premise that does not hold, where a
@@ -826,8 +879,8 @@ fn adjust_branches(taken: &Taken, seen: &mut Vec<&'static str>) {
     }
 }
 
-/// Why words are refused, in the finer parts of each cause.
-fn reasons(words: &[u32], refusal: Refusal) -> Vec<&'static str> {
+/// Why words are refused with a buffer of this length, in the finer parts of each cause.
+fn reasons(words: &[u32], buffer: usize, refusal: Refusal) -> Vec<&'static str> {
     let place = refusal.place;
     match refusal.cause.0 {
         1 => vec!["cause 1"],
@@ -848,7 +901,14 @@ fn reasons(words: &[u32], refusal: Refusal) -> Vec<&'static str> {
             }]
         }
         4 => vec!["cause 4"],
-        5 => vec!["cause 5"],
+        5 => {
+            let three = 3 * bits(words[0], 27, 20) as usize;
+            vec![if buffer < three {
+                "cause 5, room for fewer than three words a head"
+            } else {
+                "cause 5, room for three words a head"
+            }]
+        }
         6 => {
             let (n, third) = (bits(words[0], 27, 20), words[place + 2]);
             let action = bits(third, 27, 24);

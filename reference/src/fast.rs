@@ -3,7 +3,7 @@
 //! the causes with the plain form, and is checked against it.
 
 use crate::program::{accepted_text, read_words, refused_text};
-use crate::results::HeadResult;
+use crate::results::{Broadcast, HeadResult};
 use crate::sheet::check_front;
 use crate::words::{Cause, Refusal, Settings, MAX_HEADS};
 
@@ -156,6 +156,11 @@ impl Head {
             && adjuster != NOBODY
             && self.starts >> candidate & 1 == 1;
         let head = own as u32;
+        let broadcast = Broadcast {
+            starts: self.has(START_SENT).into(),
+            votes: self.votes.sent.into(),
+            adjusts: self.adjusts.sent.into(),
+        };
         if adopted {
             return HeadResult {
                 head,
@@ -164,6 +169,7 @@ impl Head {
                 adjuster: adjuster.into(),
                 adjustment: self.adjustment,
                 start: self.start[candidate as usize],
+                broadcast,
             };
         }
         HeadResult {
@@ -173,6 +179,7 @@ impl Head {
             adjuster: 0,
             adjustment: 0,
             start: 0,
+            broadcast,
         }
     }
 }

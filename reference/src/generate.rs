@@ -5,10 +5,11 @@ use crate::cover::{closed_reasons, BRANCHES};
 use crate::draft::{draft, room, steps};
 use crate::fast;
 use crate::random::Random;
+use crate::results::{HEAD_WORDS, RESULT_WORDS};
 use crate::round::round;
 use crate::sheet::run;
 use crate::words::{to_bytes, write_entry, write_sheet, Cause, Entry, RealTime};
-use crate::words::{MAX_ENTRIES, MAX_HEADS, MAX_WORDS, TIME_LIMIT};
+use crate::words::{MAX_ENTRIES, MAX_WORDS, TIME_LIMIT};
 
 /// What a sheet was made for.
 #[derive(Clone, Copy, Debug, PartialEq, Eq)]
@@ -38,19 +39,23 @@ pub fn generate(seed: u64, index: u64) -> Generated {
         13..=16 => Aim::Cause(draw_cause(&mut random)),
         _ => Aim::Damaged,
     };
-    let mut buffer = 3 * MAX_HEADS;
+    let mut buffer = RESULT_WORDS;
     let bytes = match aim {
         Aim::Premise(premise) => {
             let (mut words, n) = accepted(&mut random, premise);
             if premise == 0 && random.chance(1, 200) {
                 fill(&mut random, &mut words);
             }
-            buffer = 3 * n as usize + random.index(4);
+            buffer = HEAD_WORDS * n as usize + random.index(5);
             to_bytes(&words)
         }
         Aim::Cause(5) => {
             let (words, n) = accepted(&mut random, 0);
-            buffer = random.index(3 * n as usize);
+            // Before document 02, No. 7, three words a head were enough.
+            let (heads, enough) = (n as usize, HEAD_WORDS * n as usize);
+            let any = random.index(enough);
+            let three = 3 * heads + random.index(heads);
+            buffer = random.pick(&[any, three, 3 * heads, enough - 1]);
             to_bytes(&words)
         }
         Aim::Cause(cause) => turned_back(&mut random, cause),

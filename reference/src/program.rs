@@ -1,9 +1,9 @@
 //! What the replay program prints.
 
 use crate::judge::judge;
-use crate::results::HeadResult;
+use crate::results::{read_results, HeadResult, RESULT_WORDS};
 use crate::sheet::replay;
-use crate::words::{Cause, Refusal, MAX_HEADS};
+use crate::words::{Cause, Refusal};
 
 /// "above 49,160 bytes is cause 1, tested first".
 pub const MAX_BYTES: usize = 49_160;
@@ -58,10 +58,9 @@ pub fn printed(bytes: &[u8]) -> String {
 
 fn answer(bytes: &[u8]) -> Result<String, Refusal> {
     let words = read_words(bytes)?;
-    let mut buffer = [0; 3 * MAX_HEADS];
+    let mut buffer = [0; RESULT_WORDS];
     replay(&words, &mut buffer)?;
     let premise = judge(&words)?;
-    let n = crate::sheet::check_front(&words, None)?.n as usize;
-    let results: Vec<HeadResult> = buffer[..3 * n].chunks(3).map(HeadResult::read).collect();
-    Ok(accepted_text(&results, premise))
+    let n = crate::sheet::check_front(&words, None)?.n;
+    Ok(accepted_text(&read_results(&buffer, n), premise))
 }

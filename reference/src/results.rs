@@ -1,42 +1,75 @@
-//! "Result words".
+//! "Result words", with the fourth one of document 02, No. 7, "Frames told exactly".
 
-use crate::record::Record;
-use crate::words::bits;
+use crate::sheet::Run;
+use crate::step::Frame;
+use crate::words::{bits, MAX_HEADS};
 
-/// "Three per head [...]: kind 6 with bits 27–24 outcome, 23–20 head, 19–16
-/// candidate, 15–12 adjuster, rest zero; kind 7 with the adjustment; kind 8 with
-/// the candidate's start reading. All fields but kind, outcome and head are zero
-/// unless the outcome is 2."
-pub fn result_words(record: &Record) -> [u32; 3] {
-    let outcome = record.outcome();
-    let mut result = HeadResult {
-        head: record.own,
-        outcome,
-        candidate: 0,
-        adjuster: 0,
-        adjustment: 0,
-        start: 0,
-    };
-    if outcome == 2 {
-        result.candidate = record.candidate.expect("outcome 2 has a candidate");
-        result.adjuster = record.adjuster.expect("outcome 2 has an adjuster");
-        result.adjustment = record.adjustment.0;
-        result.start = record
-            .chosen_start_reading()
-            .expect("outcome 2 has the candidate's start reading")
-            .0;
+/// The result words of one head: "Each head's result gains a fourth word".
+pub const HEAD_WORDS: usize = 4;
+/// Those of as many heads as there may be.
+pub const RESULT_WORDS: usize = HEAD_WORDS * MAX_HEADS;
+
+/// Document 02, No. 7: "each head's frames are told exactly: starts, votes and adjusts
+/// it broadcast, as the steps broadcast them."
+#[derive(Clone, Copy, Debug, Default, PartialEq, Eq)]
+pub struct Broadcast {
+    pub starts: u32,
+    pub votes: u32,
+    pub adjusts: u32,
+}
+
+impl Broadcast {
+    /// The frames of a head in a run, each counted at the entry whose step sent it. How
+    /// often a frame is delivered is no matter.
+    pub fn of(run: &Run, head: u32) -> Broadcast {
+        let mut sent = Broadcast::default();
+        for (entry, frame) in run.entries.iter().zip(&run.frames) {
+            if entry.head != head {
+                continue;
+            }
+            match frame {
+                None => {}
+                Some(Frame::Start) => sent.starts += 1,
+                Some(Frame::Vote { .. }) => sent.votes += 1,
+                Some(Frame::Adjust { .. }) => sent.adjusts += 1,
+            }
+        }
+        sent
     }
-    result.words()
+
+    /// All its frames.
+    pub fn frames(&self) -> u32 {
+        self.starts + self.votes + self.adjusts
+    }
+
+    /// "kind 9: bits 27–20 starts, 19–12 votes, 11–4 adjusts, rest zero"
+    fn word(&self) -> u32 {
+        9 << 28 | self.starts << 20 | self.votes << 12 | self.adjusts << 4
+    }
+
+    fn read(word: u32) -> Broadcast {
+        Broadcast {
+            starts: bits(word, 27, 20),
+            votes: bits(word, 19, 12),
+            adjusts: bits(word, 11, 4),
+        }
+    }
 }
 
 /// "in head order from word 0, later words kept".
-pub fn write_results(records: &[Record], buffer: &mut [u32]) {
-    for (head, record) in records.iter().enumerate() {
-        buffer[3 * head..3 * head + 3].copy_from_slice(&result_words(record));
+pub fn write_results(run: &Run, buffer: &mut [u32]) {
+    for (head, to) in (0..run.settings.n).zip(buffer.chunks_mut(HEAD_WORDS)) {
+        to.copy_from_slice(&HeadResult::of(run, head).words());
     }
 }
 
-/// What three result words say of a head.
+/// What the first words of a buffer say of n heads.
+pub fn read_results(buffer: &[u32], n: u32) -> Vec<HeadResult> {
+    let heads = buffer.chunks(HEAD_WORDS).take(n as usize);
+    heads.map(HeadResult::read).collect()
+}
+
+/// What the result words say of a head.
 #[derive(Clone, Copy, Debug, PartialEq, Eq)]
 pub struct HeadResult {
     pub head: u32,
@@ -45,10 +78,36 @@ pub struct HeadResult {
     pub adjuster: u32,
     pub adjustment: u32,
     pub start: u32,
+    pub broadcast: Broadcast,
 }
 
 impl HeadResult {
-    /// Reads three result words.
+    /// How a head ends a run. "All fields but kind, outcome and head are zero unless the
+    /// outcome is 2", except the fourth word's, "set whatever the outcome".
+    pub fn of(run: &Run, head: u32) -> HeadResult {
+        let record = &run.records[head as usize];
+        let mut result = HeadResult {
+            head,
+            outcome: record.outcome(),
+            candidate: 0,
+            adjuster: 0,
+            adjustment: 0,
+            start: 0,
+            broadcast: Broadcast::of(run, head),
+        };
+        if result.outcome == 2 {
+            result.candidate = record.candidate.expect("outcome 2 has a candidate");
+            result.adjuster = record.adjuster.expect("outcome 2 has an adjuster");
+            result.adjustment = record.adjustment.0;
+            result.start = record
+                .chosen_start_reading()
+                .expect("outcome 2 has the candidate's start reading")
+                .0;
+        }
+        result
+    }
+
+    /// Reads a head's result words.
     pub fn read(words: &[u32]) -> HeadResult {
         HeadResult {
             head: bits(words[0], 23, 20),
@@ -57,11 +116,14 @@ impl HeadResult {
             adjuster: bits(words[0], 15, 12),
             adjustment: bits(words[1], 27, 0),
             start: bits(words[2], 27, 0),
+            broadcast: Broadcast::read(words[3]),
         }
     }
 
-    /// Writes three result words.
-    pub fn words(&self) -> [u32; 3] {
+    /// "kind 6 with bits 27–24 outcome, 23–20 head, 19–16 candidate, 15–12 adjuster, rest
+    /// zero; kind 7 with the adjustment; kind 8 with the candidate's start reading"; and
+    /// the fourth word.
+    pub fn words(&self) -> [u32; HEAD_WORDS] {
         [
             6 << 28
                 | self.outcome << 24
@@ -70,6 +132,7 @@ impl HeadResult {
                 | self.adjuster << 12,
             7 << 28 | self.adjustment,
             8 << 28 | self.start,
+            self.broadcast.word(),
         ]
     }
 

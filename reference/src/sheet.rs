@@ -1,7 +1,7 @@
 //! The run of a whole sheet, with causes 1 to 9 and their places.
 
 use crate::record::Record;
-use crate::results::write_results;
+use crate::results::{write_results, HEAD_WORDS};
 use crate::step::{input, step, Frame};
 use crate::words::{read_entry, read_first, read_second, Cause, Entry, Refusal};
 use crate::words::{Settings, MAX_WORDS};
@@ -52,8 +52,8 @@ pub fn check_front(words: &[u32], buffer: Option<usize>) -> Result<Settings, Ref
     let (n, f, correct) = read_first(words[0]).ok_or(refused(3))?;
     // "second word not kind 2"
     let (drift, tightness) = read_second(words[1]).ok_or(refused(4))?;
-    // "result buffer below 3n words"
-    if buffer.is_some_and(|length| length < 3 * n as usize) {
+    // "result buffer below 3n words"; document 02, No. 7: "Cause 5 tests 4n words."
+    if buffer.is_some_and(|length| length < HEAD_WORDS * n as usize) {
         return Err(refused(5));
     }
     Ok(Settings {
@@ -171,6 +171,6 @@ pub fn run(words: &[u32], buffer: Option<usize>) -> Result<Run, Refusal> {
 /// turned back leaves the buffer unchanged.
 pub fn replay(words: &[u32], buffer: &mut [u32]) -> Result<(), Refusal> {
     let run = run(words, Some(buffer.len()))?;
-    write_results(&run.records, buffer);
+    write_results(&run, buffer);
     Ok(())
 }

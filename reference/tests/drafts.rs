@@ -6,6 +6,7 @@ use reference::draft::{draft, room, steps};
 use reference::fast;
 use reference::judge::judge;
 use reference::program::printed;
+use reference::results::HEAD_WORDS;
 use reference::sheet::{check_front, replay, run};
 use reference::words::{counts_allowed, to_bytes, Cause};
 
@@ -183,15 +184,17 @@ fn every_draft_is_accepted_and_kept() {
         assert_eq!((given.n, given.f, given.correct), (n, f, (1 << n) - 1));
         assert_eq!((given.drift, given.tightness), (0, 0));
         assert_eq!(judge(&words), Ok(0));
-        let mut results = vec![UNTOUCHED; 3 * n as usize];
+        let mut results = vec![UNTOUCHED; HEAD_WORDS * n as usize];
         assert_eq!(replay(&words, &mut results), Ok(()));
-        // Outcome 2, candidate 0 and adjuster 0; head 0's start comes after n starts.
+        // Outcome 2, candidate 0 and adjuster 0; head 0's start comes after n starts. Each
+        // head broadcasts one frame of each sort.
         let start = first + spacing * n;
-        for (head, found) in (0..).zip(results.chunks(3)) {
+        for (head, found) in (0..).zip(results.chunks(HEAD_WORDS)) {
             let expected = [
                 0x6200_0000 | head << 20,
                 0x7000_0000 | start,
                 0x8000_0000 | start,
+                0x9010_1010,
             ];
             assert_eq!(found, expected, "{n} {f} {first} {spacing}");
         }

@@ -1,5 +1,5 @@
-//! M1 to M12 of document 01, with the values of document 02, No. 6; the causes of one
-//! head; and the recorder of document 02.
+//! M1 to M12 of document 01, with the values of document 02, No. 6, and the fourth words
+//! of No. 7; the causes of one head; and the recorder of document 02.
 
 use reference::counter::counter_reading;
 use reference::fast;
@@ -69,18 +69,20 @@ fn refused(number: u32, place: usize) -> Refusal {
 
 #[test]
 fn m1_result_words_and_text() {
-    let mut buffer = [7; 8];
+    let mut buffer = [7; 10];
     assert_eq!(replay(&m1(), &mut buffer), Ok(()));
     let result = [
         0x6200_0000,
         0x7000_0506,
         0x8000_04EC,
+        0x9010_1010,
         0x6210_0000,
         0x7000_0506,
         0x8000_0521,
+        0x9010_1010,
     ];
-    assert_eq!(buffer[..6], result);
-    assert_eq!(buffer[6..], [7, 7], "later words kept");
+    assert_eq!(buffer[..8], result);
+    assert_eq!(buffer[8..], [7, 7], "later words kept");
     let text = "0 2 0 0 1286 1260 26\n1 2 0 0 1286 1313 -27\npremises 0\n";
     assert_eq!(printed(&to_bytes(&m1())), text);
     assert_eq!(fast::printed(&to_bytes(&m1())), text);
@@ -142,9 +144,12 @@ fn m11_two_words() {
 
 #[test]
 fn m12_short_buffer() {
-    let mut buffer = [7; 5];
-    assert_eq!(replay(&m1(), &mut buffer), Err(refused(5, 0)));
-    assert_eq!(buffer, [7; 5]);
+    for room in [5, 7] {
+        let mut buffer = vec![7; room];
+        assert_eq!(replay(&m1(), &mut buffer), Err(refused(5, 0)));
+        assert_eq!(buffer, vec![7; room]);
+    }
+    assert_eq!(replay(&m1(), &mut [7; 8]), Ok(()));
     assert_eq!(judge(&m1()), Ok(0), "the judge tests the same without 5");
 }
 

@@ -1,4 +1,5 @@
 // What a board written in C gives and gets, in numbers.
+use data_values::difference;
 use head_ranges::heads_fit;
 use protocol::Cause;
 use protocol::Input;
@@ -10,7 +11,6 @@ ghost use mathlib.Core.Path.{_≡_};
 ghost use mathlib.Core.Bool.{cond};
 ghost use lib.Dec.{ltb};
 ghost use lib.ListN.{length};
-ghost use lib.IntN.{subℕ};
 ghost use Rattle.protocol.specs.Board.{freshVerdict, inputIn};
 ghost use Rattle.protocol.specs.Row.{rowLength};
 ghost use Rattle.board_c.specs.Numbers.{AreNumbers, IsCorrection};
@@ -69,12 +69,6 @@ pub fn frame_numbers(s: Sent) -> [u32; 5]
         return [5, s.serial, s.choice, s.carried - 1, 0];
     }
     [s.kind, s.serial, s.choice, s.carried, 0]
-}
-
-fn difference(a: u32, b: u32) -> i64
-    ensures { λ z. ⌜ z ≡ subℕ a b ⌝ }
-{
-    a as i64 - b as i64
 }
 
 // The correction by the numbers of a result.

@@ -1,9 +1,10 @@
 // What a value of an enum stands for as a number. A reading or a number that may be missing: whether it is there, and its value,
-// 0 where there is none; a cause: its number in document 01's table, which document 02 adds to.
+// 0 where there is none; a cause: its number in document 01's table, which document 02 adds to. And the difference of two numbers.
 use protocol::Cause;
 use protocol::OptNumber;
 use protocol::OptReading;
 ghost use mathlib.Core.Path.{_≡_};
+ghost use lib.IntN.{subℕ};
 ghost use Rattle.protocol.specs.Causes.{causeNumber};
 ghost use Rattle.protocol.specs.Record.{isNumber, isReading, numberOr0, readingOr0};
 ghost use Rattle.protocol.specs.Row.{numberIn};
@@ -74,4 +75,11 @@ pub fn cause_number(c: Cause) -> u32
         Cause::BadField => 12,
         Cause::TimeTooFar => 13,
     }
+}
+
+// A difference, signed.
+pub fn difference(a: u32, b: u32) -> i64
+    ensures { λ z. ⌜ z ≡ subℕ a b ⌝ }
+{
+    a as i64 - b as i64
 }

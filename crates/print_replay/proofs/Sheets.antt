@@ -15,7 +15,7 @@ use Rattle.protocol.specs.declared.Replayed.the-variants.{Filled, TurnedBack}
 use Rattle.protocol.specs.Words.{settingAt, entryCount}
 use Rattle.protocol.specs.Causes.{sheetVerdict}
 use Rattle.protocol.specs.Run.{History, recordOf, Run, stopped, ran, runOf, afterVerdict, runSheet}
-use Rattle.protocol.specs.Results.{wordsFrom, resultWords, Replay, fillAfter, replay}
+use Rattle.protocol.specs.Results.{wordsPerHead, wordsFrom, resultWords, Replay, fillAfter, replay}
 use Rattle.protocol.specs.Premises.{premiseNumber, judge}
 use Rattle.protocol.specs.Claim.{endingInWords}
 use Rattle.protocol.specs.Program.{headLine, headLines, refusedLine, bigEndian, printRun, printSheet, bytesVerdict, printed}
@@ -29,23 +29,23 @@ use Rattle.print_replay.proofs.Lengths.{printed-short}
 
 -- LINES OF THE SAME WORDS
 
-same-line : (a b : List ℕ) (n q : ℕ) → ((i : ℕ) → i < 3 * n → getD a i 0 ≡ getD b i 0) → q < n → headLine a q (endingInWords a q) ≡ headLine b q (endingInWords b q)
+same-line : (a b : List ℕ) (n q : ℕ) → ((i : ℕ) → i < wordsPerHead * n → getD a i 0 ≡ getD b i 0) → q < n → headLine a q (endingInWords a q) ≡ headLine b q (endingInWords b q)
 unfolding endingInWords
-same-line a b n q same l = rw (same (3 * q + 0) (omega arith), same (3 * q + 1) (omega arith), same (3 * q + 2) (omega arith)) refl
+same-line a b n q same l = rw (same (wordsPerHead * q + 0) (omega arith), same (wordsPerHead * q + 1) (omega arith), same (wordsPerHead * q + 2) (omega arith)) refl
 
-same-lines : (a b : List ℕ) (n k : ℕ) → ((i : ℕ) → i < 3 * n → getD a i 0 ≡ getD b i 0) → k ≤ n → headLines a k ≡ headLines b k
+same-lines : (a b : List ℕ) (n k : ℕ) → ((i : ℕ) → i < wordsPerHead * n → getD a i 0 ≡ getD b i 0) → k ≤ n → headLines a k ≡ headLines b k
 unfolding headLines
 same-lines a b n zero same l = refl
 same-lines a b n (suc q) same l = rw (same-lines a b n q same (omega arith), same-line a b n q same l) refl
 
-words-first : (g : Setting) (h : History) (rest : List ℕ) (i : ℕ) → i < 3 * g .n → getD (resultWords g h ++ rest) i 0 ≡ getD (resultWords g h) i 0
+words-first : (g : Setting) (h : History) (rest : List ℕ) (i : ℕ) → i < wordsPerHead * g .n → getD (resultWords g h ++ rest) i 0 ≡ getD (resultWords g h) i 0
 unfolding resultWords
 words-first g h rest i l = List·getD-append (wordsFrom (recordOf g h) 0 (g .n)) rest 0 i (omega (arith, length-words (recordOf g h) 0 (g .n)))
 
--- THE ENDS OF A REPLAY INTO 48 WORDS
+-- THE ENDS OF A REPLAY INTO 64 WORDS
 
-module _ (ws out : List ℕ) (room : 48 ≤ length out) where
-  heads-fit-in : (v : Verdict) → sheetVerdict ws ≡ v → v ≡ Accepted → 3 * settingAt ws .n ≤ length out
+module _ (ws out : List ℕ) (room : 64 ≤ length out) where
+  heads-fit-in : (v : Verdict) → sheetVerdict ws ≡ v → v ≡ Accepted → wordsPerHead * settingAt ws .n ≤ length out
   heads-fit-in v is e = let few = heads-fit (settingAt ws .n) (settingAt ws .f) (sheet-fits ws (is ∙ e) .heads) .1 in omega arith
 
   stopped-answer : (c : Cause) (p : ℕ) → runSheet ws ≡ stopped c p → replay ws out .answer ≡ TurnedBack c p
@@ -54,7 +54,7 @@ module _ (ws out : List ℕ) (room : 48 ≤ length out) where
     where
       go : (v : Verdict) → sheetVerdict ws ≡ v → afterVerdict v (runOf ws (entryCount ws)) ≡ stopped c p → fillAfter v ws out .answer ≡ TurnedBack c p
       go (Refused d) is e = cc
-      go Accepted is e = rw (le-ltb (length out) (3 * settingAt ws .n) (heads-fit-in Accepted is refl), e) refl
+      go Accepted is e = rw (le-ltb (length out) (wordsPerHead * settingAt ws .n) (heads-fit-in Accepted is refl), e) refl
 
   -- a sheet that is not turned back has its first two words
   pub has-setting : (r : Replayed) → r ≡ replay ws out .answer → r ≡ Filled → 2 ≤ length ws
@@ -90,8 +90,8 @@ module _ (ws out : List ℕ) (room : 48 ≤ length out) where
       go (ran s) h =
           let g = settingAt ws in
           let few = accepted-sheet ws s h .at-most-16 in
-          let words : results ≡ resultWords g s ++ drop (3 * g .n) out = left ∙ ap (λ (x : Replay). x .buffer) (filled ws out s h (omega arith)) in
-          rw (en, ek, words, same-lines (resultWords g s ++ drop (3 * g .n) out) (resultWords g s) (g .n) (g .n) (words-first g s (drop (3 * g .n) out)) (omega arith)) refl
+          let words : results ≡ resultWords g s ++ drop (wordsPerHead * g .n) out = left ∙ ap (λ (x : Replay). x .buffer) (filled ws out s h (omega arith)) in
+          rw (en, ek, words, same-lines (resultWords g s ++ drop (wordsPerHead * g .n) out) (resultWords g s) (g .n) (g .n) (words-first g s (drop (wordsPerHead * g .n) out)) (omega arith)) refl
 
 -- THE PROGRAM
 

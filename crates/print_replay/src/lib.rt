@@ -25,11 +25,11 @@ fn premise_number(j: Judged) -> u8
     }
 }
 
-// A sheet has at most 16 heads, with 48 result words.
+// A sheet has at most 16 heads, with 64 result words.
 fn print_sheet(sheet: &[u32], out: &mut [u8]) -> usize
     ensures { λ r. ⌜ (now (out .exit) ≡ written (now (out .entry)) 0 (printSheet (now (sheet .entry)))) × (r ≡ endOf 0 (printSheet (now (sheet .entry)))) ⌝ }
 {
-    let mut results = [0u32; 48];
+    let mut results = [0u32; 64];
     let report = replay_and_judge(sheet, &mut results);
     let replayed = report.replayed;
     match replayed {

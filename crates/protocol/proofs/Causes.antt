@@ -46,10 +46,10 @@ first-word-first ws k e h a =
     cond-elim (λ v. v ≡ Refused BadFirstWord) (ltb mostWords (length ws)) (λ t. absurd-bool t (le-ltb mostWords (length ws) (omega arith)))
     (λ _. rw (whole-length ws k e, a) refl)
 
-pub buffer-before-entries : (ws out : List ℕ) → sheetVerdict ws ≡ Accepted → length out < 3 * settingAt ws .n
+pub buffer-before-entries : (ws out : List ℕ) → sheetVerdict ws ≡ Accepted → length out < wordsPerHead * settingAt ws .n
     → replay ws out .answer ≡ TurnedBack ShortBuffer 0
 unfolding replay
-buffer-before-entries ws out e h = rw (e, lt-ltb (length out) (3 * settingAt ws .n) h) refl
+buffer-before-entries ws out e h = rw (e, lt-ltb (length out) (wordsPerHead * settingAt ws .n) h) refl
 
 -- "Unchanged: result buffer"
 pub refusal-keeps-buffer : (ws out : List ℕ) (c : Cause) (p : ℕ) → replay ws out .answer ≡ TurnedBack c p → replay ws out .buffer ≡ out

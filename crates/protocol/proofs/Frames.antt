@@ -3,25 +3,29 @@
 -- Why: a head sends one start, and in each phase it names falling numbers, never the same twice. A head that is named has
 -- named itself; a head that names itself does so before it names any other, so it names none above it.
 -- Hence no two heads name each other, and of the n² pairs of sender and number a phase has at most n(n + 1)/2.
--- Main results, over the phase: `sent-itself`, `own-first`, `phase-frames`; over a round: `frames-published`,
--- `frames-bound`; of a sheet's words: `sheet-published`, `sheet-frames`.
+-- Main results, over the phase: `sent-itself`, `own-first`, `phase-frames`; of a head: `starts-counted`, `frames-counted` (what its record
+-- keeps of the frames that its steps sent is how many there were); over a round: `frames-sum`, `frames-published`, `frames-bound`; of a
+-- sheet's words: `sheet-published`, `sheet-frames`.
 use mathlib.Core.Path.{_≡_, refl, sym, _∙_, ap, subst}
-use mathlib.Core.Bool.{Bool, true, false, cond}
+use mathlib.Core.Bool.{Bool, true, false, cond, _&&_, _||_}
 use mathlib.Core.List.{List, [], _∷_}
 use Prim.Native.Nat.{ℕ, zero, suc, _+_, _*_, _≤_, _<_}
 use native.Mathlib.Nat.{not-suc-le-zero, mul-suc, suc-mul}
 use native.Mathlib.Omega.{arith}
 use lib.Dec.{ltb, eqb}
-use borrow.Author.Tests.{eqb-true, eqb-false, ltb-true, lt-ltb}
+use lib.ListN.{getD}
+use borrow.Author.Tests.{eqb-true, eqb-false, ne-eqb, ltb-true, lt-ltb}
 use Rattle.protocol.specs.Base.{countBelow}
-use Rattle.protocol.specs.Types.{OptNumber, NoNumber, SomeNumber, HeadRecord, Setting, Action}
+use Rattle.protocol.specs.Types.{Reading, OptNumber, NoNumber, SomeNumber, Phase, HeadRecord, Setting, Action, Frame, NoFrame, Start, Vote, Adjust}
 use Rattle.protocol.specs.Words.{settingAt}
 use Rattle.protocol.specs.Record.{fresh}
-use Rattle.protocol.specs.Step.{vote, adjust, isClosed}
-use Rattle.protocol.specs.Run.{Event, History, recordOf, frameSent, isFrame, ran, runSheet}
-use Rattle.protocol.proofs.Tests.{absurd-bool, cases, or-second, eqb-same, count-some, some-count}
-use Rattle.protocol.proofs.Effects.{Kind, votes, adjusts, phaseOf, number, prepared, Sending, send, Allowed, sends-nothing, sends-start, sends-vote, sends-adjust, allowed, none-is-some, same-number, closed-last, start-once}
+use Rattle.protocol.specs.Step.{withLast, vote, adjust, isClosed}
+use Rattle.protocol.specs.Run.{Event, History, recordOf, frameSent, isDeliveredBy, isFrame, deliveredBy, framesSent, ran, runSheet}
+use Rattle.protocol.proofs.Tests.{absurd-bool, cases, eqb-same, count-some, some-count}
+use Rattle.protocol.proofs.Effects.{Kind, votes, adjusts, phaseOf, delivery, number, prepared, Sending, nothing, voting, adjusting, send, sendingOf, answer, send-marks, none-is-some, same-number, phase-last, closed-last, start-once}
+use Rattle.protocol.proofs.Effects as Effects
 use Rattle.protocol.proofs.Valid.{baseOf, Taken, Valid, start, more, accepted-sheet, record-at, record-other, by-head, of-effect}
+use Rattle.protocol.proofs.Runs.{start-frame}
 use Rattle.protocol.proofs.Phases.{names, held, sent, Origin, own, reached, SendsOne, Turn, sends-none, sends-one, turn, names-other, sent-other, outranks-below, frame-new, frame-stays, serial-below, unsent, AtMost, falls}
 
 -- the number of events at which a frame was sent
@@ -54,6 +58,22 @@ sum-mono (suc n) f h le = let a = le n in let b = sum-mono n f h le in omega ari
 sum-add : (n : ℕ) (f h : ℕ → ℕ) → sumBelow n (λ q. f q + h q) ≡ sumBelow n f + sumBelow n h
 sum-add zero f h = refl
 sum-add (suc n) f h = let a = sum-add n f h in omega arith
+
+sum-none : (n : ℕ) → sumBelow n (λ q. 0 + (0 + 0)) ≡ 0
+sum-none zero = refl
+sum-none (suc n) = let a = sum-none n in omega arith
+
+-- a term that is not 0 at one number alone
+sum-past : (n p : ℕ) (b : Bool) → n ≤ p → sumBelow n (λ q. bit (eqb p q && b)) ≡ 0
+sum-past zero p b le = refl
+sum-past (suc n) p b le = rw (ne-eqb p n (λ z. omega arith), sum-past n p b (omega arith)) refl
+
+sum-at : (n p : ℕ) (b : Bool) → p < n → sumBelow n (λ q. bit (eqb p q && b)) ≡ bit b
+sum-at zero p b lt = absurd (not-suc-le-zero lt)
+sum-at (suc n) p b lt =
+    cases (eqb p n)
+    (λ t. rw (t, sum-past n p b (let z = eqb-true p n t in omega arith)) (omega arith))
+    (λ t. rw (t, sum-at n p b (let z = eqb-false p n t in omega arith)) (omega arith))
 
 sum-ones : (n : ℕ) (f : ℕ → ℕ) → ((q : ℕ) → q < n → f q ≤ 1) → sumBelow n f ≤ n
 sum-ones zero f le = omega arith
@@ -205,49 +225,98 @@ module _ (g : Setting) (k : Kind) where
       let b = pairs-below (g .n) (isSentFor s) (λ p c x y. not-both v p c (test-sent s p c x) (test-sent s c p y)) in
       omega arith
 
--- FRAMES OF A ROUND
+-- FRAMES OF A HEAD
 
--- a head's own frames: its start, its votes and its adjusts
-abbrev framesOf : HeadRecord → ℕ
-framesOf r = bit (r .started) + (r .vote .sent + r .adjust .sent)
-
-started-stays : (r : HeadRecord) (a : Action) → bit (r .started) ≤ bit (prepared r a .started)
-started-stays r a = bit-mono (r .started) (prepared r a .started) (or-second (eqb (number a) 1) (r .started))
-
--- a step that sends a frame adds one to them
-frames-after : (r : HeadRecord) (a : Action) → isClosed r a ≡ false → {x : Sending} → Allowed r a x
-    → framesOf r + bit (isFrame (send x (prepared r a) .frame)) ≤ framesOf (send x (prepared r a) .after)
+-- a step's frame is counted: that of a phase by the frames sent in it, a start by its mark, since it is sent once
+phase-counted : (k : Kind) (r : HeadRecord) (a : Action) (x : Sending)
+    → phaseOf k (send x (prepared r a) .after) .sent ≡ bit (eqb (deliveredBy (send x (prepared r a) .frame)) (delivery k)) + phaseOf k r .sent
 unfolding vote adjust
-frames-after r a e sends-nothing = let m = started-stays r a in omega arith
-frames-after r a e (sends-start nu) = rw (start-once r a nu e, nu) (omega arith)
-frames-after r a e (sends-vote y) = let m = started-stays r a in omega arith
-frames-after r a e (sends-adjust y z) = let m = started-stays r a in omega arith
+phase-counted votes r a nothing = omega arith
+phase-counted votes r a Effects.start = omega arith
+phase-counted votes r a (voting c) = omega arith
+phase-counted votes r a (adjusting c x) = omega arith
+phase-counted adjusts r a nothing = omega arith
+phase-counted adjusts r a Effects.start = omega arith
+phase-counted adjusts r a (voting c) = omega arith
+phase-counted adjusts r a (adjusting c x) = omega arith
+
+is-start : (x : Frame) → eqb (deliveredBy x) 2 ≡ isDeliveredBy 2 0 x
+is-start NoFrame = refl
+is-start Start = refl
+is-start (Vote j c x) = refl
+is-start (Adjust j c x) = refl
+
+start-counted : (r : HeadRecord) (a : Action) → isClosed r a ≡ false
+    → bit (answer r a .after .started) ≡ bit (eqb (deliveredBy (answer r a .frame)) 2) + bit (r .started)
+start-counted r a e =
+    let marked : answer r a .after .started ≡ (eqb (number a) 1 || r .started) = ap (λ (l : List Bool). getD l 0 false) (send-marks (sendingOf r a) (prepared r a)) in
+    let sends : eqb (deliveredBy (answer r a .frame)) 2 ≡ eqb (number a) 1 = is-start (answer r a .frame) ∙ start-frame r (prepared r a) a 0 in
+    rw (marked, sends) (cases (eqb (number a) 1) (λ t. rw (t, start-once r a (eqb-true (number a) 1 t) e) refl) (λ t. rw t (omega arith)))
 
 module _ (g : Setting) where
-  frames-sum : {h : History} → Valid g h → framesIn h ≤ sumBelow (g .n) (λ p. framesOf (recordOf g h p))
-  unfolding framesIn
-  frames-sum start = omega arith
-  frames-sum (more {e = e} {s = s} t v) =
-      let a = frames-sum v in
-      let b = sum-grows (g .n) (λ p. framesOf (recordOf g s p)) (λ p. framesOf (recordOf g (e ∷ s) p)) (e .entry .head) (bit (isFrame (e .frame))) (t .head-below) grows here in
-      omega arith
+  -- a number in a head's record that counts its frames of one kind
+  counts : (a : ℕ) (f : HeadRecord → ℕ) → ((q : ℕ) → f (fresh (g .n) (g .f) q) ≡ 0) → ((r : HeadRecord) (x : Reading) → f (withLast r x) ≡ f r)
+      → ((r : HeadRecord) (b : Action) → isClosed r b ≡ false → f (answer r b .after) ≡ bit (eqb (deliveredBy (answer r b .frame)) a) + f r)
+      → {h : History} → Valid g h → (q : ℕ) → framesSent a h q ≡ f (recordOf g h q)
+  unfolding framesSent recordOf
+  counts a f none last step start q = sym (none q)
+  counts a f none last step (more {e = e} {s = s} t v) q =
+      by-head (λ q. framesSent a (e ∷ s) q ≡ f (recordOf g (e ∷ s) q)) e q
+      (rw (record-at g e s, eqb-same (e .entry .head), counts a f none last step v (e .entry .head)) here)
+      (λ d. rw (record-other g e s q d, d, counts a f none last step v q) (omega arith))
     where
-      here : framesOf (recordOf g s (e .entry .head)) + bit (isFrame (e .frame)) ≤ framesOf (recordOf g (e ∷ s) (e .entry .head))
+      here : bit (eqb (deliveredBy (e .frame)) a) + f (recordOf g s (e .entry .head)) ≡ f (e .after)
       here =
           let taken : isClosed (baseOf g s e) (t .action) ≡ false = closed-last _ _ (t .action) ∙ t .is-open in
-          rw (record-at g e s) (of-effect g (λ y. framesOf (recordOf g s (e .entry .head)) + bit (isFrame (y .frame)) ≤ framesOf (y .after)) t
-          (frames-after (baseOf g s e) (t .action) taken (allowed (baseOf g s e) (t .action) taken)))
+          of-effect g (λ y. bit (eqb (deliveredBy (y .frame)) a) + f (recordOf g s (e .entry .head)) ≡ f (y .after)) t
+          (sym (step (baseOf g s e) (t .action) taken ∙ ap (λ (x : ℕ). bit (eqb (deliveredBy (answer (baseOf g s e) (t .action) .frame)) a) + x) (last _ _)))
 
-      grows : (q : ℕ) → framesOf (recordOf g s q) ≤ framesOf (recordOf g (e ∷ s) q)
-      grows q = by-head (λ q. framesOf (recordOf g s q) ≤ framesOf (recordOf g (e ∷ s) q)) e q (let a = here in omega arith) (λ d. rw (record-other g e s q d) (omega arith))
+  -- document 02, No. 7: the starts, votes and adjusts that a head's steps sent are those that its record keeps
+  pub starts-counted : {h : History} → Valid g h → (q : ℕ) → framesSent 2 h q ≡ bit (recordOf g h q .started)
+  unfolding fresh
+  starts-counted = counts 2 (λ r. bit (r .started)) (λ q. refl) (λ r x. refl) start-counted
+
+  pub frames-counted : (k : Kind) {h : History} → Valid g h → (q : ℕ) → framesSent (delivery k) h q ≡ sent g k h q
+  frames-counted k = counts (delivery k) (λ r. phaseOf k r .sent) (none-sent k (g .n) (g .f)) (λ r x. ap (λ (p : Phase). p .sent) (phase-last k r x)) (step k)
+    where
+      step : (k : Kind) (r : HeadRecord) (b : Action) → isClosed r b ≡ false → phaseOf k (answer r b .after) .sent ≡ bit (eqb (deliveredBy (answer r b .frame)) (delivery k)) + phaseOf k r .sent
+      step votes r b e = phase-counted votes r b (sendingOf r b)
+      step adjusts r b e = phase-counted adjusts r b (sendingOf r b)
+
+  -- FRAMES OF A ROUND
+
+  abbrev pub framesOf : History → ℕ → ℕ
+  framesOf h q = framesSent 2 h q + (framesSent 5 h q + framesSent 8 h q)
+
+  -- the heads' frames are all frames
+  pub frames-sum : {h : History} → Valid g h → framesIn h ≡ sumBelow (g .n) (framesOf h)
+  unfolding framesIn framesSent
+  frames-sum start = sym (sum-none (g .n))
+  frames-sum (more {e = e} {s = s} t v) =
+      let one = sum-at (g .n) (e .entry .head) (isFrame (e .frame)) (t .head-below) in
+      let both = sum-add (g .n) (λ q. bit (eqb (e .entry .head) q && isFrame (e .frame))) (framesOf s) in
+      let each : framesOf (e ∷ s) ≡ (λ q. bit (eqb (e .entry .head) q && isFrame (e .frame)) + framesOf s q) = λ i q. by-kind (eqb (e .entry .head) q) (e .frame) (framesSent 2 s q) (framesSent 5 s q) (framesSent 8 s q) i in
+      let all = ap (sumBelow (g .n)) each in
+      let before = frames-sum v in
+      omega arith
+    where
+      by-kind : (b : Bool) (x : Frame) (k m n : ℕ)
+          → bit (b && eqb (deliveredBy x) 2) + k + (bit (b && eqb (deliveredBy x) 5) + m + (bit (b && eqb (deliveredBy x) 8) + n)) ≡ bit (b && isFrame x) + (k + (m + n))
+      by-kind false x k m n = omega arith
+      by-kind true NoFrame k m n = omega arith
+      by-kind true Start k m n = omega arith
+      by-kind true (Vote j c y) k m n = omega arith
+      by-kind true (Adjust j c y) k m n = omega arith
 
   -- source 000's count: n starts and the frames of two phases
   pub frames-published : {h : History} → Valid g h → framesIn h ≤ g .n * g .n + 2 * g .n
   frames-published {h} v =
       let a = frames-sum v in
-      let b = sum-add (g .n) (λ p. bit (recordOf g h p .started)) (λ p. recordOf g h p .vote .sent + recordOf g h p .adjust .sent) in
-      let c = sum-add (g .n) (λ p. recordOf g h p .vote .sent) (λ p. recordOf g h p .adjust .sent) in
-      let d = sum-ones (g .n) (λ p. bit (recordOf g h p .started)) (λ p l. bit-mono (recordOf g h p .started) true (λ _. refl)) in
+      let b = sum-add (g .n) (framesSent 2 h) (λ q. framesSent 5 h q + framesSent 8 h q) in
+      let c = sum-add (g .n) (framesSent 5 h) (framesSent 8 h) in
+      let d = sum-ones (g .n) (framesSent 2 h) (λ q l. rw (starts-counted v q) (bit-mono (recordOf g h q .started) true (λ _. refl))) in
+      let voted : sumBelow (g .n) (framesSent 5 h) ≡ sumBelow (g .n) (sent g votes h) = ap (sumBelow (g .n)) (λ i q. frames-counted votes v q i) in
+      let adjusted : sumBelow (g .n) (framesSent 8 h) ≡ sumBelow (g .n) (sent g adjusts h) = ap (sumBelow (g .n)) (λ i q. frames-counted adjusts v q i) in
       let x = phase-frames g votes v in
       let y = phase-frames g adjusts v in
       omega arith

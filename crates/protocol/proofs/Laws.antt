@@ -21,7 +21,7 @@ use Rattle.protocol.specs.Words.{isCorrect}
 use Rattle.protocol.specs.Record.{isReading, isNumber, readingOr0, numberOr0, reading, noSender, keptOf, startOf, voteOf, startOfChoice, chosenStart, outcome, sameNumber, readingCounts, recordInRange}
 use Rattle.protocol.specs.Step.{withLast, keepVote, keepAdjust, keptFor, dropOthers, silent, refused, vote, adjust, startsHeld, mayLead, lead, voteReadings, mayAdjust, propose, isAbove, isPassedOver, outranks, candidateAfter, delivered, effect, isClosed, allSpoken, isUnderWay, mayClose, isTested, act, takenAs, takeAction, actionOf, inputFits, step}
 use Rattle.protocol.specs.Run.{Event, History, recordOf}
-use Rattle.protocol.specs.Results.{ifAdopted, outcomeWord, adjustmentWord, startWord, headWords}
+use Rattle.protocol.specs.Results.{ifAdopted, outcomeWord, adjustmentWord, startWord, framesWord, headWords}
 use Rattle.protocol.specs.Premises.{closing, each, isSteady, correctTakes, correctCloses, premise2, premise5, noneBetween, premise6, premise7, premise8}
 use Rattle.protocol.proofs.Tests.{absurd-bool, cases, cond-elim, not-true, not-false, not-is-false, and-left, and-right, and-both, and-false, all-below, below-all, or-left, or-right, or-cases, or-first, or-second, implied, eqb-same, all-in}
 use Rattle.protocol.proofs.Moments.{Earlier, earlier-in, each-at}
@@ -271,9 +271,9 @@ outcome-1-without-start r c e = outcome-1 r c (λ t. absurd-bool (and-left (isRe
 pub outcome-1-without-adjuster : (r : HeadRecord) → r .adjust .closed ≡ true → r .adjust .choice ≡ NoNumber → outcome r ≡ 1
 outcome-1-without-adjuster r c e = outcome-1 r c (λ t. absurd-bool (and-right (isReading (chosenStart r)) _ t) (ap isNumber e))
 
--- "All fields but kind, outcome and head are zero unless the outcome is 2"
+-- "All fields but kind, outcome and head are zero unless the outcome is 2", but those of the fourth word, "set whatever the outcome"
 pub words-unless-adopted : (q : ℕ) (r : HeadRecord) → outcome r ≢ 2
-    → headWords q r ≡ (6 * 2 ^ 28 + outcome r * 2 ^ 24 + q * 2 ^ 20) ∷ 7 * 2 ^ 28 ∷ 8 * 2 ^ 28 ∷ []
+    → headWords q r ≡ (6 * 2 ^ 28 + outcome r * 2 ^ 24 + q * 2 ^ 20) ∷ 7 * 2 ^ 28 ∷ 8 * 2 ^ 28 ∷ framesWord r ∷ []
 unfolding outcomeWord adjustmentWord startWord
 words-unless-adopted q r n = ap₂ _∷_ (omega (arith, zero-field (numberOr0 (r .vote .choice)), zero-field (numberOr0 (r .adjust .choice))))
     (ap₂ _∷_ (omega (arith, zero-field (r .adjustment .0))) (ap₂ _∷_ (omega (arith, zero-field (readingOr0 (chosenStart r)))) refl))

@@ -25,6 +25,7 @@ pub mod Agreement
 pub mod Precision
 pub mod ThirdPoint
 pub mod ResultWords
+pub mod Readers
 pub mod Attained
 pub mod Marked
 pub mod DraftRoom

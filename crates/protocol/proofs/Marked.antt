@@ -12,13 +12,14 @@ use Rattle.protocol.specs.Step.{vote, adjust, startsHeld, mayLead, lead,
 use Rattle.protocol.specs.Counter.{counterReading}
 use Rattle.protocol.specs.Causes.{sheetVerdict}
 use Rattle.protocol.specs.Run.{recordOf, frameSent, inputOf, stepEntry, andThen, runOf, runSheet}
-use Rattle.protocol.specs.Results.{outcomeWord, adjustmentWord, startWord, wordsFrom, resultWords, replay}
+use Rattle.protocol.specs.Results.{outcomeWord, adjustmentWord, startWord, framesWord, wordsFrom, resultWords, replay}
 use Rattle.protocol.specs.Premises.{each, before, lastStart, premise1, premise2, startWithin, premise3, premise4, framesReached, votesReached, premise5, noneBetween, premise6, adjustsReached, premise7, premise8, firstBroken, judge}
 use Rattle.protocol.specs.Claim.{endingInWords}
 use Rattle.protocol.specs.Program.{decimal, signed, line, headLines, refusedLine, premisesLine, printSheet}
 use Rattle.protocol.specs.Spelling.{entryWords, sheetOf}
 use Rattle.protocol.specs.Recorder.{settingInWidth, entryInWidth, entryInRange, writeVerdict, writeSheet}
 use Rattle.protocol.specs.Draft.{phaseOrder, roundOrder, deliveries, entriesFrom, draftEntries, draftSheet, draftVerdict, draft}
+use Rattle.protocol.specs.Readers.{kindsFit, readVerdict, display, plan}
 use Rattle.protocol.specs.Marked.{Case, m1Numbers, m1, plainNumbers, lookAt, marked}
 use Rattle.protocol.proofs.Tests.{sameList, same-list, all-at}
 
@@ -31,13 +32,13 @@ nothing = record { found = []; expected = [] }
 all-pass : all passes marked ≡ true
 unfolding settingOf firstWordFits entryOf entryFits fresh chosenStart outcome correction correctedClock orderedAt median
     vote adjust startsHeld mayLead lead voteReadings mayAdjust propose delivered effect isClosed mayClose isTested act takenAs takeAction actionOf counterReading sheetVerdict
-    recordOf frameSent inputOf stepEntry andThen runOf runSheet outcomeWord adjustmentWord startWord wordsFrom resultWords replay
+    recordOf frameSent inputOf stepEntry andThen runOf runSheet outcomeWord adjustmentWord startWord framesWord wordsFrom resultWords replay
     each before lastStart premise1 premise2 startWithin premise3 premise4 framesReached votesReached premise5 noneBetween premise6 adjustsReached premise7 premise8 firstBroken judge
     endingInWords decimal signed line headLines refusedLine premisesLine printSheet entryWords sheetOf settingInWidth entryInWidth entryInRange writeVerdict writeSheet
-    phaseOrder roundOrder deliveries entriesFrom draftEntries draftSheet draftVerdict draft m1Numbers m1 plainNumbers lookAt marked
+    phaseOrder roundOrder deliveries entriesFrom draftEntries draftSheet draftVerdict draft kindsFit readVerdict display plan m1Numbers m1 plainNumbers lookAt marked
 all-pass = refl
 
 -- each marked case gives what the documents say, M1 at index 0
-pub marked-case : (i : ℕ) → i < 17 → getD marked i nothing .found ≡ getD marked i nothing .expected
+pub marked-case : (i : ℕ) → i < 21 → getD marked i nothing .found ≡ getD marked i nothing .expected
 unfolding marked
 marked-case i h = same-list (getD marked i nothing .found) (getD marked i nothing .expected) (all-at passes marked nothing all-pass i h)

@@ -21,7 +21,6 @@ use Rattle.protocol.specs.Types.{Reading, OptReading, NoReading, SomeRea
 use Rattle.protocol.specs.Types.{Action, Look, StartSent, StartDelivered, StartConfirmed, VoteTurn, VoteDelivered, VoteClose, AdjustTurn, AdjustDelivered, AdjustClose}
 use Rattle.protocol.specs.Words.{headsFit}
 use Rattle.protocol.specs.Record.{isReading, isNumber, readingOr0, numberOr0, reading, noSender, keptOf, startOf, voteOf, fresh, readingInRange, serialInRange, nameInRange, senderInRange, senderIsNone, sameNumber, readingCounts, sentInRange, phaseInRange, marksInRange, recordInRange}
-use Rattle.protocol.specs.Median.{median}
 use Rattle.protocol.specs.Step.{withVoteReading, withCandidate, withAdjuster, withLast, keepVote, keptFor, dropOthers, accepted, vote, adjust, prepend, voteReadings, outranks, candidateAfter, effect, isClosed, mayClose, closeEarly, concluded, isTested, act, takenAs, takeAction, actionsOf, actionOf, inputFits, step}
 use Rattle.protocol.specs.Run.{History, recordOf, isDeliveredBy, orElse, frameSent, carriedReading}
 use Rattle.protocol.proofs.Tests.{absurd-bool, cases, cond-elim, not-true, not-false, parts, and-left, and-right, and-both, or-left, or-right, or-first, or-second, or-cases, implied, implies, all-below, below-all}

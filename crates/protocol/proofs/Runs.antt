@@ -74,7 +74,7 @@ unfolding frameSent
 sent-before e s a p k u = rw u (or-else-none (frameSent s a p k))
 
 -- a start is sent at action 1, and at no other
-start-frame : (r m : HeadRecord) (a : Action) (k : ℕ) → isDeliveredBy 2 k (send (sendingOf r a) m .frame) ≡ eqb (number a) 1
+pub start-frame : (r m : HeadRecord) (a : Action) (k : ℕ) → isDeliveredBy 2 k (send (sendingOf r a) m .frame) ≡ eqb (number a) 1
 unfolding vote adjust
 start-frame r m a k = go a
   where

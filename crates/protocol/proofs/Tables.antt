@@ -1,13 +1,13 @@
 -- Tables of a function's values, lists that hold them, and a buffer that is filled from its beginning on.
-use mathlib.Core.Path.{_≡_, refl, sym, _∙_, ap}
+use mathlib.Core.Path.{_≡_, refl, sym, _∙_, ap, subst}
 use mathlib.Core.Bool.{Bool, false, cond}
 use mathlib.Core.List.{List, [], _∷_, _++_, append-assoc}
-use Prim.Native.Nat.{ℕ, zero, suc, _+_, _≤_, _<_}
+use Prim.Native.Nat.{ℕ, zero, suc, _+_, _*_, _≤_, _<_}
 use mathlib.Core.Logic.{_≢_}
-use native.Mathlib.Nat.{not-suc-le-zero}
+use native.Mathlib.Nat.{not-suc-le-zero, mul-zero, mul-suc}
 use native.Mathlib.Omega.{arith}
-use lib.ListN.{length, getD, set, drop, length-set}
-use lib.Seq.{ext-getD, getD-set-same, getD-set-other, drop-cons}
+use lib.ListN.{length, getD, set, drop, length-set, length-append, List·getD-append}
+use lib.Seq.{ext-getD, getD-set-same, getD-set-other, getD-append-add, set-append-seam, drop-cons}
 use lib.Dec.{ltb, eqb}
 use borrow.Author.Count.{below-more}
 use borrow.Author.Tests.{eqb-true, eqb-false, ltb-true, ltb-false, lt-ltb, le-ltb}
@@ -80,6 +80,27 @@ module _ {A : Type 0} where
       let same : 0 + k ≡ k = omega arith in
       ap (table f 0) next ∙ table-more f 0 k ∙ ap (λ (j : ℕ). table f 0 k ++ (f j ∷ [])) same
 
+  -- the values of f at the k numbers from q on, each a list of w elements, one behind the other
+  abbrev pub blocks : (ℕ → List A) → ℕ → ℕ → List A
+  blocks f q zero = []
+  blocks f q (suc k) = f q ++ blocks f (suc q) k
+
+  module _ (f : ℕ → List A) (w : ℕ) (wide : (q : ℕ) → length (f q) ≡ w) where
+    pub length-blocks : (q k : ℕ) → length (blocks f q k) ≡ w * k
+    length-blocks q zero = sym (mul-zero w)
+    length-blocks q (suc k) = length-append (f q) (blocks f (suc q) k) ∙ rw (wide q, length-blocks (suc q) k, mul-suc w k) (omega arith)
+
+    pub block-at : (q k i j : ℕ) (rest : List A) (d : A) → i < k → j < w → getD (blocks f q k ++ rest) (w * i + j) d ≡ getD (f (q + i)) j d
+    block-at q zero i j rest d h l = absurd (not-suc-le-zero h)
+    block-at q (suc k) zero j rest d h l =
+        let index : w * 0 + j ≡ j = rw (mul-zero w) (omega arith) in
+        let number : q + 0 ≡ q = omega arith in
+        rw (append-assoc, index, number) (List·getD-append (f q) _ d j (rw (wide q) l))
+    block-at q (suc k) (suc i) j rest d h l =
+        let index : w * suc i + j ≡ length (f q) + (w * i + j) = rw (wide q, mul-suc w i) (omega arith) in
+        let number : q + suc i ≡ suc q + i = omega arith in
+        rw (append-assoc, index, number) (getD-append-add (f q) _ (w * i + j) d ∙ block-at (suc q) k i j rest d (omega arith) l)
+
   -- three elements at an index, and what is behind them
   pub drop-three : (l : List A) (j k : ℕ) (d : A) → j + 3 ≡ k → k ≤ length l → drop j l ≡ getD l j d ∷ getD l (j + 1) d ∷ getD l (j + 2) d ∷ drop k l
   drop-three l j k d e h =
@@ -88,20 +109,20 @@ module _ {A : Type 0} where
       let three : suc (suc (suc j)) ≡ k = omega arith in
       rw (one, two, drop-cons l j d (omega arith), drop-cons l (suc j) d (omega arith), drop-cons l (suc (suc j)) d (omega arith), three) refl
 
-  -- three stores, one after the other, behind a front
-  set-three : (p : List A) (x y z : A) (l : List A) (a b c : A) (n : ℕ) → length p ≡ n
-      → set (set (set (p ++ x ∷ y ∷ z ∷ l) n a) (n + 1) b) (n + 2) c ≡ p ++ a ∷ b ∷ c ∷ l
-  set-three [] x y z l a b c n e = rw (← e) refl
-  set-three (u ∷ p) x y z l a b c n e =
-      let m = length p in
-      let e1 : suc m + 1 ≡ suc (m + 1) = omega arith in
-      let e2 : suc m + 2 ≡ suc (m + 2) = omega arith in
-      rw (← e, e1, e2) (ap (λ (t : List A). u ∷ t) (set-three p x y z l a b c m refl))
+  -- elements more behind those that have been written, one and three; later ones are kept
+  pub one-more : (front before out : List A) (n m : ℕ) (a d : A) → length front ≡ n → n + 1 ≡ m → m ≤ length before
+      → out ≡ front ++ drop n before → set out n a ≡ (front ++ a ∷ []) ++ drop m before
+  one-more front before out n m a d long e room was =
+      let next : suc n ≡ m = omega arith in
+      let split = ap (λ (l : List A). front ++ l) (drop-cons before n d (omega arith)) in
+      let stored = subst (λ (j : ℕ). set (front ++ getD before n d ∷ drop (suc n) before) j a ≡ front ++ a ∷ drop (suc n) before) long (set-append-seam front (getD before n d) (drop (suc n) before) a) in
+      rw (was, split, stored, next, append-assoc) refl
 
-  -- three elements more behind those that have been written; later ones are kept
   pub three-more : (front before out : List A) (n m : ℕ) (a b c d : A) → length front ≡ n → n + 3 ≡ m → m ≤ length before
       → out ≡ front ++ drop n before → set (set (set out n a) (n + 1) b) (n + 2) c ≡ (front ++ a ∷ b ∷ c ∷ []) ++ drop m before
   three-more front before out n m a b c d long e room was =
-      let split = ap (λ (l : List A). front ++ l) (drop-three before n m d e room) in
-      let stored = set-three front (getD before n d) (getD before (n + 1) d) (getD before (n + 2) d) (drop m before) a b c n long in
-      rw (was, split, stored, append-assoc) refl
+      let one = one-more front before out n (n + 1) a d long refl (omega arith) was in
+      let two = one-more (front ++ a ∷ []) before _ (n + 1) (n + 2) b d (omega (arith, long, length-append front (a ∷ []))) (omega arith) (omega arith) one in
+      let three = one-more ((front ++ a ∷ []) ++ b ∷ []) before _ (n + 2) m c d (omega (arith, long, length-append front (a ∷ []), length-append (front ++ a ∷ []) (b ∷ []))) (omega arith) room two in
+      let same : ((front ++ a ∷ []) ++ b ∷ []) ++ c ∷ [] ≡ front ++ a ∷ b ∷ c ∷ [] = rw (append-assoc, append-assoc) refl in
+      three ∙ ap (λ (l : List A). l ++ drop m before) same

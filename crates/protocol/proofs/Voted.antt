@@ -13,7 +13,7 @@ use borrow.Author.Tests.{eqb-true, eqb-false}
 use Rattle.protocol.specs.Types.{Reading, OptReading, NoReading, SomeReading, OptNumber, SomeNumber, Sender, HeadRecord, Setting, Frame, NoFrame, Start, Vote, Adjust}
 use Rattle.protocol.specs.Words.{settingAt, headsFit}
 use Rattle.protocol.specs.Record.{isReading, reading, noSender, keptOf, startOf, voteOf, sameNumber, fresh, recordInRange}
-use Rattle.protocol.specs.Step.{keptFor, dropOthers, accepted, vote, adjust, voteReadings, candidateAfter}
+use Rattle.protocol.specs.Step.{keptFor, dropOthers, vote, adjust, voteReadings, candidateAfter}
 use Rattle.protocol.specs.Run.{Event, History, recordOf, frameSent, frameOf, ran, runSheet}
 use Rattle.protocol.proofs.Tests.{absurd-bool, cases, cond-elim, and-right, implied, eqb-same}
 use Rattle.protocol.proofs.Effects.{votes, Delivery, deliveredBy, serialOf, sendersAfter, set-keeps, set-holds, closed-last, kept-for-at, Sending, nothing, voting, adjusting, send, ignored, keptAfter, kept-after, answer, prepared-same, both-name, same-number, own-kept, own-voted}

@@ -3,13 +3,13 @@ use mathlib.Core.Path.{_≡_}
 use mathlib.Core.Bool.{true}
 use mathlib.Core.List.{List, _∷_, _++_}
 use Prim.Native.Nat.{ℕ, _+_, _-_, _*_, _≤_, _<_}
-use lib.ListN.{length, getD}
+use lib.ListN.{length}
 use lib.IntN.{ℤ, pos, natAbs, subℕ, _+ℤ_, _-ℤ_}
 use Rattle.protocol.specs.Types.{HeadRecord, Setting, Filled, Judged, Kept, Report}
 use Rattle.protocol.specs.Words.{bits, timeOf, isCorrect, settingAt}
 use Rattle.protocol.specs.Record.{numberOr0, outcome, correction}
 use Rattle.protocol.specs.Run.{Event, History, recordOf, ran, runSheet}
-use Rattle.protocol.specs.Results.{wordsPerHead, replay}
+use Rattle.protocol.specs.Results.{wordsPerHead, wordOf, replay}
 use Rattle.protocol.specs.Premises.{lastStart, judge}
 
 -- one of the n heads, and correct
@@ -37,7 +37,7 @@ endingOf r =
 
 -- the same read off the result words, "with kind 7's number less kind 8's as each head's correction"
 abbrev pub resultOf : List ℕ → ℕ → ℕ → ℕ
-resultOf out q i = getD out (wordsPerHead * q + i) 0
+resultOf out q i = wordOf wordsPerHead out q i
 
 unfoldable pub endingInWords : List ℕ → ℕ → Ending
 endingInWords out q =

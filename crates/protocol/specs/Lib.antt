@@ -1,4 +1,4 @@
--- Document 01 in definitions, in its order; from document 02, Recorder, OpenTable and Draft. Base and Types serve all the others.
+-- Document 01 in definitions, in its order; from document 02, Recorder, OpenTable, Draft and Readers. Base and Types serve all the others.
 pub mod Base
 pub mod Types
 pub mod Words
@@ -18,4 +18,5 @@ pub mod Board
 pub mod Recorder
 pub mod OpenTable
 pub mod Draft
+pub mod Readers
 pub mod Marked

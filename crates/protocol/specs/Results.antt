@@ -1,12 +1,12 @@
--- Document 01, "Result words", and the replay that fills a lent buffer with them.
+-- Document 01, "Result words", with the fourth of document 02, No. 7, and the replay that fills a lent buffer with them.
 use mathlib.Core.Bool.{cond}
 use mathlib.Core.List.{List, [], _∷_, _++_}
 use Prim.Native.Nat.{ℕ, zero, suc, _+_, _*_, _^_}
 use lib.Dec.{ltb, eqb}
-use lib.ListN.{length, drop}
+use lib.ListN.{length, getD, drop}
 use Rattle.protocol.specs.Types.{HeadRecord, Setting, ShortBuffer, Verdict, Accepted, Refused, Replayed, Filled, TurnedBack}
 use Rattle.protocol.specs.Words.{settingAt, entryCount}
-use Rattle.protocol.specs.Record.{outcome, chosenStart, readingOr0, numberOr0}
+use Rattle.protocol.specs.Record.{outcome, chosenStart, readingOr0, numberOr0, markNumber}
 use Rattle.protocol.specs.Causes.{causeNumber, sheetVerdict}
 use Rattle.protocol.specs.Run.{History, recordOf, Run, stopped, ran, runOf}
 
@@ -27,16 +27,25 @@ adjustmentWord r = 7 * 2 ^ 28 + ifAdopted r (r .adjustment .0)
 unfoldable pub startWord : HeadRecord → ℕ
 startWord r = 8 * 2 ^ 28 + ifAdopted r (readingOr0 (chosenStart r))
 
--- "Three per head, in head order from word 0": the words of k heads from head q on
+-- document 02, No. 7: "starts, votes and adjusts it broadcast", a start once at most; "kind 9: bits 27–20 starts, 19–12 votes, 11–4
+-- adjusts, rest zero, set whatever the outcome"
+unfoldable pub framesWord : HeadRecord → ℕ
+framesWord r = 9 * 2 ^ 28 + markNumber (r .started) 1 * 2 ^ 20 + r .vote .sent * 2 ^ 12 + r .adjust .sent * 2 ^ 4
+
+-- "Each head's result gains a fourth word"; "in head order from word 0": the words of k heads from head q on
 abbrev pub wordsPerHead : ℕ
-wordsPerHead = 3
+wordsPerHead = 4
 
 abbrev pub headWords : ℕ → HeadRecord → List ℕ
-headWords q r = outcomeWord q r ∷ adjustmentWord r ∷ startWord r ∷ []
+headWords q r = outcomeWord q r ∷ adjustmentWord r ∷ startWord r ∷ framesWord r ∷ []
 
 unfoldable pub wordsFrom : (ℕ → HeadRecord) → ℕ → ℕ → List ℕ
 wordsFrom r q zero = []
 wordsFrom r q (suc k) = headWords q (r q) ++ wordsFrom r (suc q) k
+
+-- head q's word i, of k words a head
+abbrev pub wordOf : ℕ → List ℕ → ℕ → ℕ → ℕ
+wordOf k ws q i = getD ws (k * q + i) 0
 
 unfoldable pub resultWords : Setting → History → List ℕ
 resultWords g h = wordsFrom (recordOf g h) 0 (g .n)

@@ -1,11 +1,11 @@
 -- Document 01, "Causes to turn a sheet back" and "The third point's words": a run, entry by entry.
 use mathlib.Core.Bool.{Bool, true, false, cond, not, _&&_, _||_}
 use mathlib.Core.List.{List, [], _∷_}
-use Prim.Native.Nat.{ℕ, zero, suc, min}
+use Prim.Native.Nat.{ℕ, zero, suc, _+_, min}
 use lib.Dec.{ltb, eqb}
 use Rattle.protocol.specs.Types.{OptReading, NoReading, SomeReading, HeadRecord, Setting, Entry, Input, Cause, BadEntry, TimeFell, Verdict, Accepted, Refused, Stepped, Frame, NoFrame, Start, Vote, Adjust}
 use Rattle.protocol.specs.Words.{hasSender, settingAt, entryCount, placeOf, entryAt, entryFitsAt}
-use Rattle.protocol.specs.Record.{fresh, readingOr0, isReading}
+use Rattle.protocol.specs.Record.{fresh, readingOr0, isReading, markNumber}
 use Rattle.protocol.specs.Step.{actionOf, takeAction, refused}
 use Rattle.protocol.specs.Causes.{sheetVerdict}
 
@@ -50,6 +50,18 @@ isFrame NoFrame = false
 isFrame Start = true
 isFrame (Vote j c x) = true
 isFrame (Adjust j c x) = true
+
+-- the action that delivers a frame, 0 for none; and document 02, No. 7, "frames .. it broadcast, as the steps broadcast them": how many
+-- frames that action a delivers head q's events in a history sent
+abbrev pub deliveredBy : Frame → ℕ
+deliveredBy NoFrame = 0
+deliveredBy Start = 2
+deliveredBy (Vote j c x) = 5
+deliveredBy (Adjust j c x) = 8
+
+unfoldable pub framesSent : ℕ → History → ℕ → ℕ
+framesSent a [] q = 0
+framesSent a (e ∷ s) q = markNumber (eqb (e .entry .head) q && eqb (deliveredBy (e .frame)) a) 1 + framesSent a s q
 
 -- "A delivered vote or adjust carries what its sender's step sent under that serial"
 abbrev pub carriedChoice : Frame → ℕ

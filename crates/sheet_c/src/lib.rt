@@ -1,10 +1,13 @@
-// What a program written in C calls to write or draft a sheet, and to replay and judge one; include/daisarnica_sheet.h declares it.
+// What a program written in C calls to write or draft a sheet, to replay and judge one, and to read its result words;
+// include/daisarnica_sheet.h declares it.
 use data_values::cause_number;
 use judge_sheet::replay_and_judge;
 use protocol::Judged;
 use protocol::Replayed;
 use protocol::Verdict;
+use sheet_display::display;
 use sheet_draft::draft_sheet;
+use sheet_plan::plan;
 use sheet_writer::write_sheet;
 ghost use mathlib.Core.Path.{_≡_};
 ghost use mathlib.Core.List.{_∷_};
@@ -14,7 +17,8 @@ ghost use Rattle.protocol.specs.Premises.{judge, judgedNumbers};
 ghost use Rattle.protocol.specs.Results.{replay, replayedNumbers};
 ghost use Rattle.protocol.specs.Recorder.{settingFrom, writeSheet};
 ghost use Rattle.protocol.specs.Draft.{draft};
-ghost use Rattle.sheet_c.specs.Numbers.{AgreesInNumbers, RecordedIfAccepted, DraftedIfAccepted, answerNumbers, judgedNumber, placeIn};
+ghost use Rattle.protocol.specs.Readers.{display, plan};
+ghost use Rattle.sheet_c.specs.Numbers.{AgreesInNumbers, RecordedIfAccepted, DraftedIfAccepted, ShownIfResult, PlannedIfResult, answerNumbers, judgedNumber, placeIn};
 
 // The judge's numbers behind the replay's cause and place.
 fn numbers_behind(cause: u32, place: u32, j: Judged) -> [u32; 5]
@@ -108,4 +112,24 @@ pub extern "C" fn daisarnica_replay_and_judge(
     let judged = report.judged;
     *answer = answer_numbers(replayed, judged);
     judged_number(judged)
+}
+
+// Reads what result words say of a head, for the carriage display; returns 0 or the cause.
+#[no_mangle]
+pub extern "C" fn daisarnica_display(n: u32, head: u32, words: &[u32], shown: &mut [i64; 6]) -> u32
+    ensures { λ k. ⌜ (k ≡ verdictNumber (display n head (now (words .entry)) .verdict))
+        × (now (shown .exit) ≡ display n head (now (words .entry)) .numbers)
+        × ShownIfResult n head (now (words .entry)) k (now (shown .exit)) ⌝ }
+{
+    verdict_number(display(n, head, words, shown))
+}
+
+// The same and the frames that the head broadcast, for the bus planner.
+#[no_mangle]
+pub extern "C" fn daisarnica_plan(n: u32, head: u32, words: &[u32], told: &mut [i64; 9]) -> u32
+    ensures { λ k. ⌜ (k ≡ verdictNumber (plan n head (now (words .entry)) .verdict))
+        × (now (told .exit) ≡ plan n head (now (words .entry)) .numbers)
+        × PlannedIfResult n head (now (words .entry)) k (now (told .exit)) ⌝ }
+{
+    verdict_number(plan(n, head, words, told))
 }

@@ -12,8 +12,9 @@ mod sheet;
 mod step;
 
 /// How often each answer was given: a cause for one head; for a sheet the judge's
-/// number, and 21 for the replay's cause 5. They show how deep the inputs go.
-static ANSWERS: [AtomicU64; 32] = [const { AtomicU64::new(0) }; 32];
+/// number, and 21 for the replay's cause 5; for words that are read 32 and the display's
+/// cause, and 40 and that of the planner's reader. They show how deep the inputs go.
+static ANSWERS: [AtomicU64; 48] = [const { AtomicU64::new(0) }; 48];
 
 fn count(answer: u32) {
     ANSWERS[answer as usize].fetch_add(1, Relaxed);

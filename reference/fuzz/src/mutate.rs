@@ -1,10 +1,13 @@
-//! Changes of whole entries, since bytes changed at random are seldom a sheet.
+//! Changes of whole entries, since bytes changed at random are seldom a sheet; and of
+//! result words, which stand behind a first word that names n and a head.
 
+use reference::damage::{damage, Asked};
 use reference::fast;
 use reference::random::Random;
-use reference::words::to_bytes;
+use reference::results::HeadResult;
+use reference::words::{kind, to_bytes};
 
-use crate::sheet::split;
+use crate::sheet::{named, split};
 
 const TIME: u32 = (1 << 28) - 1;
 
@@ -125,9 +128,39 @@ fn change(random: &mut Random, words: &mut Vec<u32>) {
     }
 }
 
+/// Result words with one damage or two; at times those of a sheet in its place. None for
+/// other sheets.
+fn filed(random: &mut Random, given: &[u32]) -> Option<Vec<u32>> {
+    let [first, words @ ..] = given else {
+        return None;
+    };
+    if words.first().is_some_and(|&word| kind(word) > 5) {
+        let (n, head) = named(*first);
+        let words = words.to_vec();
+        let mut asked = Asked { n, head, words };
+        for _ in 0..random.pick(&[1, 1, 2]) {
+            damage(random, &mut asked);
+        }
+        let first = with(*first, 0xFF, 20, asked.n.into());
+        let first = with(first, 0xF, 16, asked.head.into());
+        return Some([&[first], &asked.words[..]].concat());
+    }
+    if !random.chance(1, 16) {
+        return None;
+    }
+    let (results, _) = fast::answer(given, None).ok()?;
+    let told = results.iter().flat_map(HeadResult::words);
+    Some([*first].into_iter().chain(told).collect())
+}
+
 /// The bytes after one to three changes; mostly until the sheet is accepted.
 pub fn mutated(random: &mut Random, data: &[u8], max: usize) -> Vec<u8> {
     let (given, rest) = split(data);
+    if let Some(words) = filed(random, &given) {
+        let mut bytes = to_bytes(&words);
+        bytes.truncate(max);
+        return bytes;
+    }
     let tries = random.pick(&[1, 8, 24]);
     let mut words = Vec::new();
     for _ in 0..tries {
@@ -141,7 +174,7 @@ pub fn mutated(random: &mut Random, data: &[u8], max: usize) -> Vec<u8> {
     }
     let mut bytes = to_bytes(&words);
     if random.chance(1, 8) {
-        bytes.push(random.below(64) as u8);
+        bytes.push(random.below(80) as u8);
     } else if rest.len() == 1 {
         bytes.extend(rest);
     }

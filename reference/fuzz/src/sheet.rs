@@ -1,8 +1,12 @@
 //! A whole sheet: big-endian words; a single byte behind the last is the length of
-//! the result buffer.
+//! the result buffer. The words behind the first also go to the readers of result
+//! words: n and the head asked are where a sheet has n and f. So do the result words
+//! of the sheet, for every head.
 
 use reference::random::Random;
-use reference::sheets::compare;
+use reference::results::{HEAD_WORDS, RESULT_WORDS};
+use reference::sheets::{compare, compare_readers, Answered};
+use reference::words::bits;
 
 use crate::mutate::mutated;
 
@@ -17,23 +21,49 @@ pub fn split(data: &[u8]) -> (Vec<u32>, &[u8]) {
     (words.collect(), rest)
 }
 
+/// n and the head asked, as the first word of an input names them.
+pub fn named(first: u32) -> (u32, u32) {
+    (bits(first, 27, 20), bits(first, 19, 16))
+}
+
+fn read(n: u32, head: u32, words: &[u32]) -> Result<(), String> {
+    let (shown, told) = compare_readers(n, head, words)?;
+    crate::count(32 + shown.err().map_or(0, |cause| cause.0));
+    crate::count(40 + told.err().map_or(0, |cause| cause.0));
+    Ok(())
+}
+
+/// The sheet that the bytes are, and what is read: any difference is given back.
+fn run(data: &[u8]) -> Result<(), String> {
+    let (words, rest) = split(data);
+    let buffer = match rest {
+        [length] => usize::from(length % 80),
+        _ => RESULT_WORDS,
+    };
+    let Answered { cause, judged, out } = compare(&words, buffer, words.len() <= PLAIN_WORDS)?;
+    crate::count(judged);
+    if cause == 5 {
+        // The judge does not know cause 5, so its number is free for it.
+        crate::count(16 + 5);
+    }
+    let [first, behind @ ..] = &words[..] else {
+        return Ok(());
+    };
+    let (n, head) = named(*first);
+    read(n, head, behind)?;
+    if cause == 0 {
+        let results = &out[..HEAD_WORDS * n as usize];
+        (0..n).try_for_each(|head| read(n, head, results))?;
+    }
+    Ok(())
+}
+
 /// # Safety
 /// Called by the fuzzer, with `data` to `size` bytes.
 #[no_mangle]
 pub unsafe extern "C" fn LLVMFuzzerTestOneInput(data: *const u8, size: usize) -> i32 {
-    let (words, rest) = split(unsafe { crate::lent(data, size) });
-    let buffer = match rest {
-        [length] => usize::from(length % 64),
-        _ => 48,
-    };
-    match compare(&words, buffer, words.len() <= PLAIN_WORDS) {
-        Ok((5, judged)) => {
-            // The judge does not know cause 5, so its number is free for it.
-            crate::count(16 + 5);
-            crate::count(judged);
-        }
-        Ok((_, judged)) => crate::count(judged),
-        Err(what) => panic!("difference: {what}"),
+    if let Err(what) = run(unsafe { crate::lent(data, size) }) {
+        panic!("difference: {what}");
     }
     0
 }

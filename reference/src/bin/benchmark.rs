@@ -1,26 +1,31 @@
 //! Replay and judge by the proved static library and by the fast form here, on
-//! the same words; the recorder of both, on the fields of the same sheets; and the
-//! drafts of both. `benchmark` prints for each sheet, or number of heads of a
-//! draft, the time of one call in nanoseconds, the median of several runs: what is
-//! done, sheet, proved, reference. `benchmark SHEET FORM CALLS` only makes the
-//! calls, for a count of instructions.
+//! the same words; the recorder of both, on the fields of the same sheets; the
+//! drafts of both; and both readers of both, on the result words of a draft.
+//! `benchmark` prints for each sheet, or number of heads of a draft, the time of one
+//! call in nanoseconds, the median of several runs: what is done, sheet, proved,
+//! reference. `benchmark SHEET FORM CALLS` only makes the calls, for a count of
+//! instructions.
 
-use reference::draft::draft;
+use reference::draft::{draft, room};
 use reference::fast;
 use reference::program::read_words;
+use reference::readers::{display, plan};
 use reference::recorder::record;
-use reference::results::HeadResult;
-use reference::sheet::check_front;
-use reference::sheets::{proved, proved_draft, proved_recording};
+use reference::results::{read_results, HEAD_WORDS, RESULT_WORDS};
+use reference::sheet::{check_front, replay};
+use reference::sheets::{compare_readers, proved, proved_display, proved_draft};
+use reference::sheets::{proved_plan, proved_recording};
 use reference::words::{read_entry, Settings, MAX_WORDS};
 use std::hint::black_box;
 use std::time::Instant;
 
 const ENTRIES: usize = 4096;
-/// Three for each of at most 16 heads.
-const RESULT_WORDS: usize = 48;
 /// The numbers of heads for which a draft is measured.
 const DRAFTED_HEADS: [u32; 4] = [2, 5, 8, 16];
+/// The numbers of heads whose result words are read.
+const READ_HEADS: [u32; 2] = [2, 16];
+/// The readers, as the forms of their calls begin.
+const READERS: [&str; 2] = ["display", "plan"];
 const RUNS: usize = 301;
 /// The length of one run: so short that other programs seldom interrupt it.
 const RUN_NANOSECONDS: u128 = 1_000_000;
@@ -35,7 +40,7 @@ struct Writer {
 impl Writer {
     fn new(heads: u32) -> Writer {
         // f as large as it may be, the drift 100 parts per million, the tightness 10,000 microseconds.
-        let first = 1 << 28 | heads << 20 | (heads - 1) / 2 << 16 | ((1 << heads) - 1);
+        let first = 1 << 28 | heads << 20 | ((heads - 1) / 2) << 16 | ((1 << heads) - 1);
         let second = 2 << 28 | 100 << 16 | 10_000;
         Writer {
             heads,
@@ -128,11 +133,7 @@ fn compare(name: &str, words: &[u32]) {
     let mut out = [0; RESULT_WORDS];
     let answer = proved(words, &mut out);
     let (results, premise) = fast::answer(words, Some(RESULT_WORDS)).expect("an accepted sheet");
-    let shown: Vec<_> = out
-        .chunks(3)
-        .take(results.len())
-        .map(HeadResult::read)
-        .collect();
+    let shown = read_results(&out, results.len() as u32);
     assert_eq!(answer, (premise, [0, 0, 0, 0, premise]), "{name}");
     assert_eq!(premise, 0, "{name}");
     assert_eq!(shown, results, "{name}");
@@ -222,6 +223,35 @@ fn compare_drafts(n: u32) {
     assert_eq!(proved, reference, "{n}");
 }
 
+/// The result words of a drafted sheet of n heads.
+fn drafted_results(n: u32) -> Vec<u32> {
+    let mut sheet = vec![0; room(n)];
+    draft(n, (n - 1) / 2, 1000, 100, &mut sheet).expect("it can be drafted");
+    let mut words = vec![0; HEAD_WORDS * n as usize];
+    replay(&sheet, &mut words).expect("a drafted sheet is accepted");
+    words
+}
+
+/// So many calls of one form of a reader, for the last of n heads.
+fn call_reader(n: u32, words: &[u32], form: &str, calls: u128) {
+    for _ in 0..calls {
+        let (words, head) = (black_box(words), black_box(n - 1));
+        match form {
+            "display" => _ = black_box(proved_display(n, head, words)),
+            "display-reference" => _ = black_box(display(n, head, words)),
+            "plan" => _ = black_box(proved_plan(n, head, words)),
+            "plan-reference" => _ = black_box(plan(n, head, words)),
+            _ => panic!("no form {form}"),
+        }
+    }
+}
+
+/// That both forms of both readers give the same numbers, and refuse nothing.
+fn check_readers(n: u32, words: &[u32]) {
+    let read = compare_readers(n, n - 1, words);
+    assert!(matches!(read, Ok((Ok(_), Ok(_)))), "{n}: {read:?}");
+}
+
 /// What makes so many calls of a form, with a buffer.
 type Calls<'a> = &'a dyn Fn(&str, u128, &mut [u32]);
 
@@ -250,38 +280,57 @@ fn measure(what: &str, name: &str, call: Calls) {
     println!("{what} {name} {proved} {reference}");
 }
 
+/// The times of all that is measured.
+fn measure_all(sheets: &[Sheet]) {
+    for sheet in sheets {
+        compare(sheet.name, &sheet.words);
+        sheet.compare_recorders();
+        for what in ["replay", "record"] {
+            measure(what, sheet.name, &|form, calls, out| {
+                sheet.call(form, calls, out)
+            });
+        }
+    }
+    for n in DRAFTED_HEADS {
+        compare_drafts(n);
+        measure("draft", &n.to_string(), &|form, calls, out| {
+            call_draft(n, form, calls, out)
+        });
+    }
+    for n in READ_HEADS {
+        let words = drafted_results(n);
+        check_readers(n, &words);
+        for what in READERS {
+            measure(what, &n.to_string(), &|form, calls, _| {
+                call_reader(n, &words, form, calls)
+            });
+        }
+    }
+}
+
+/// So many calls of a form, on a sheet or with a number of heads.
+fn only_call(sheets: &[Sheet], name: &str, form: &str, calls: u128) {
+    let mut out = vec![0; MAX_WORDS];
+    let is_reader = READERS.iter().any(|what| form.starts_with(what));
+    match name.parse() {
+        Ok(n) if is_reader => call_reader(n, &drafted_results(n), form, calls),
+        Ok(n) => call_draft(n, form, calls, &mut out),
+        Err(_) => sheets
+            .iter()
+            .find(|s| s.name == name)
+            .expect("a sheet's name, or a number of heads")
+            .call(form, calls, &mut out),
+    }
+}
+
 fn main() {
     let arguments: Vec<String> = std::env::args().skip(1).collect();
     let sheets = sheets().map(|(name, words)| Sheet::new(name, words));
     match arguments.as_slice() {
-        [] => {
-            for sheet in &sheets {
-                compare(sheet.name, &sheet.words);
-                sheet.compare_recorders();
-                for what in ["replay", "record"] {
-                    measure(what, sheet.name, &|form, calls, out| {
-                        sheet.call(form, calls, out)
-                    });
-                }
-            }
-            for n in DRAFTED_HEADS {
-                compare_drafts(n);
-                measure("draft", &n.to_string(), &|form, calls, out| {
-                    call_draft(n, form, calls, out)
-                });
-            }
-        }
+        [] => measure_all(&sheets),
         [name, form, calls] => {
             let calls = calls.parse().expect("a number of calls");
-            let mut out = vec![0; MAX_WORDS];
-            match name.parse() {
-                Ok(n) => call_draft(n, form, calls, &mut out),
-                Err(_) => sheets
-                    .iter()
-                    .find(|s| s.name == name)
-                    .expect("a sheet's name, or a number of heads")
-                    .call(form, calls, &mut out),
-            }
+            only_call(&sheets, name, form, calls);
         }
         _ => panic!("usage: benchmark [SHEET FORM CALLS]"),
     }

@@ -12,7 +12,7 @@ use reference::cover::ALLOWED_COUNTS;
 use reference::draft::{draft, room, steps};
 use reference::generate::draftable;
 use reference::random::Random;
-use reference::results::HeadResult;
+use reference::results::{Broadcast, HeadResult, HEAD_WORDS};
 use reference::sheets::{proved, proved_draft};
 use reference::words::TIME_LIMIT;
 
@@ -115,10 +115,11 @@ fn drawn(seed: u64, index: u64) -> Call {
 }
 
 /// The library replays and judges a drafted sheet: all premises are kept, and every
-/// head has adopted head 0's start, which all took n steps after the first time.
+/// head has adopted head 0's start, which all took n steps after the first time, and
+/// has broadcast one frame of each sort.
 fn replayed(call: &Call, words: &[u32]) -> Result<(), String> {
     let [n, _, first, spacing] = call.given;
-    let mut out = vec![0; 3 * n as usize];
+    let mut out = vec![0; HEAD_WORDS * n as usize];
     let (judged, answer) = proved(words, &mut out);
     if (judged, answer) != (0, [0; 5]) {
         return Err(format!("the sheet is judged {judged} {answer:?}"));
@@ -131,6 +132,11 @@ fn replayed(call: &Call, words: &[u32]) -> Result<(), String> {
         adjuster: 0,
         adjustment: start,
         start,
+        broadcast: Broadcast {
+            starts: 1,
+            votes: 1,
+            adjusts: 1,
+        },
     });
     let expected: Vec<u32> = results.flat_map(|result| result.words()).collect();
     if out != expected {

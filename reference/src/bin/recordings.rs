@@ -164,7 +164,7 @@ fn spoil(random: &mut Random, call: &mut Call, cause: u32) {
         }
         3 => match random.below(4) {
             0 => call.given[0] = random.pick(&[0, 1, 17, 18, 255]),
-            1 => call.given[1] = random.pick(&[(n + 1) / 2, 15]),
+            1 => call.given[1] = random.pick(&[n.div_ceil(2), 15]),
             2 => call.given[2] = 0xFFFF,
             _ => call.given[2] |= 1 << n & 0xFFFF,
         },

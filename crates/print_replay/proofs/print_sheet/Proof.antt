@@ -24,7 +24,7 @@ enum-told : tie.Need-enum-told
 enum-told c = search needs
 
 setting-at-requires : tie.Need-setting-at-requires
-setting-at-requires c κs = let h = has-setting _ (replicate 48 0) (omega arith) _ (c .before .before .before .replay-and-judge .ensures .0) (c .enum-told .given .1) in search needs
+setting-at-requires c κs = let h = has-setting _ (replicate 64 0) (omega arith) _ (c .before .before .before .replay-and-judge .ensures .0) (c .enum-told .given .1) in search needs
 
 premise-number-requires : tie.Need-premise-number-requires
 premise-number-requires c κs = search needs
@@ -39,7 +39,7 @@ same-length : tie.Need-same-length
 same-length c = search needs
 
 returns : tie.Need-returns
-returns c = rw (prints-refusal _ (replicate 48 0) (omega arith) _ _ _ (c .before .before .before .before .before .before .before .before .replay-and-judge .ensures .0) (c .before .before .before .before .before .replayed .given .1)) at (c .before .before .put-refused .ensures)
+returns c = rw (prints-refusal _ (replicate 64 0) (omega arith) _ _ _ (c .before .before .before .before .before .before .before .before .replay-and-judge .ensures .0) (c .before .before .before .before .before .replayed .given .1)) at (c .before .before .put-refused .ensures)
 
 same-length-2 : tie.Need-same-length-2
 same-length-2 c = search needs
@@ -47,7 +47,7 @@ same-length-2 c = search needs
 returns-2 : tie.Need-returns-2
 returns-2 c =
     let e = c .before .before .before .before .before .before .before .before .before .before .replay-and-judge .ensures in
-    rw (prints-results _ (replicate 48 0) (omega arith) _ _ _ _ (e .0) (e .2) (c .before .before .before .before .before .before .before .enum-told .given .1) (ap (λ (g : Setting). g .n) (c .before .before .before .before .before .before .setting-at .ensures)) (c .before .before .before .before .before .premise-number .ensures ∙ ap premiseNumber (e .1))) at (c .before .before .put-results .ensures)
+    rw (prints-results _ (replicate 64 0) (omega arith) _ _ _ _ (e .0) (e .2) (c .before .before .before .before .before .before .before .enum-told .given .1) (ap (λ (g : Setting). g .n) (c .before .before .before .before .before .before .setting-at .ensures)) (c .before .before .before .before .before .premise-number .ensures ∙ ap premiseNumber (e .1))) at (c .before .before .put-results .ensures)
 
 pub print-sheet-spec : {M : Type 1} → statement M
 print-sheet-spec =

@@ -59,6 +59,15 @@ mul-out-3 c = search needs
 slice-write-out-3 : tie.Need-slice-write-out-3 Inv-loop μ-loop
 slice-write-out-3 c = simp length-set (omega arith)
 
+add-out-3 : tie.Need-add-out-3 Inv-loop μ-loop
+add-out-3 c = search needs
+
+mul-out-4 : tie.Need-mul-out-4 Inv-loop μ-loop
+mul-out-4 c = search needs
+
+slice-write-out-4 : tie.Need-slice-write-out-4 Inv-loop μ-loop
+slice-write-out-4 c = simp length-set (omega arith)
+
 add-q : tie.Need-add-q Inv-loop μ-loop
 add-q c = search needs
 
@@ -94,6 +103,9 @@ write-words-spec =
     add-out-2
     mul-out-3
     slice-write-out-3
+    add-out-3
+    mul-out-4
+    slice-write-out-4
     add-q
     loop-less
     loop-again

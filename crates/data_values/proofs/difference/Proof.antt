@@ -1,9 +1,9 @@
 use native.Mathlib.Nat.{lt-trans}
 use lib.Dec.{lit<}
 use Rattle.data_values.proofs.Signed.{difference-fits, difference-is}
 use borrow.Author.Needs.{needs}
-use Rattle.board_c.proofs.numbers.difference.Statement.{statement}
-use Rattle.board_c.proofs.numbers.difference.Tie as tie
+use Rattle.data_values.proofs.difference.Statement.{statement}
+use Rattle.data_values.proofs.difference.Tie as tie
 
 cast-result : tie.Need-cast-result
 cast-result c = search needs
