@@ -3,6 +3,7 @@
 
 use std::fs;
 use std::path::PathBuf;
+use std::sync::LazyLock;
 
 use reference::program::read_words;
 use reference::readers::{display, plan};
@@ -13,17 +14,14 @@ use reference::words::{kind, Cause};
 /// The folder of the sample sheets, in the repository's root.
 const SAMPLES: &str = concat!(env!("CARGO_MANIFEST_DIR"), "/../samples");
 
-/// M1's result words.
-const M1: [u32; 8] = [
-    0x6200_0000,
-    0x7000_0506,
-    0x8000_04EC,
-    0x9010_1010,
-    0x6210_0000,
-    0x7000_0506,
-    0x8000_0521,
-    0x9010_1010,
-];
+/// M1's result words, which the marked cases spell out.
+static M1: LazyLock<Vec<u32>> = LazyLock::new(|| {
+    let bytes = fs::read(PathBuf::from(SAMPLES).join("m1.sheet")).expect("M1 is a sample");
+    let mut words = vec![0; 2 * HEAD_WORDS];
+    let sheet = read_words(&bytes).expect("a sheet has whole words");
+    replay(&sheet, &mut words).expect("M1 is accepted");
+    words
+});
 
 /// What the display shows of M1's heads.
 const SHOWN: [[i64; 6]; 2] = [[2, 0, 0, 1286, 1260, 26], [2, 0, 0, 1286, 1313, -27]];
@@ -115,7 +113,7 @@ fn display_passes_over_other_kinds() {
 fn fields_as_they_stand() {
     for outcome in 0..16 {
         // Head 13 and low bits set in the words of head 1.
-        let mut words = M1;
+        let mut words = M1.to_vec();
         words[4] = 0x60D5_6FFF | outcome << 24;
         words[5] = 0x7FFF_FFFF;
         words[6] = 0x8000_0001;
@@ -170,10 +168,10 @@ fn lengths() {
     assert_eq!(causes(2, 1, &longer(0x9010_1010)), [0, 2]);
     // The words of three heads, or of two, for another n.
     assert_eq!(causes(3, 0, &M1), [2, 2]);
-    assert_eq!(causes(2, 0, &[M1, M1].concat()), [2, 2]);
-    assert_eq!(causes(4, 3, &[M1, M1].concat()), [0, 0]);
+    assert_eq!(causes(2, 0, &M1.repeat(2)), [2, 2]);
+    assert_eq!(causes(4, 3, &M1.repeat(2)), [0, 0]);
     // Twelve words of three a head are four heads to the display, and three by length.
-    let twelve = three(&[M1, M1].concat());
+    let twelve = three(&M1.repeat(2));
     assert_eq!(causes(4, 0, &twelve), [0, 2]);
     assert_eq!(causes(3, 0, &twelve), [2, 6]);
 }
@@ -183,7 +181,7 @@ fn lengths() {
 fn kinds_of_all_heads() {
     for place in 0..8 {
         for other in 0..16 {
-            let mut words = M1;
+            let mut words = M1.to_vec();
             words[place] = words[place] & 0x0FFF_FFFF | other << 28;
             let own = kind(M1[place]);
             let known = |kind| (6..=8).contains(&kind);
@@ -202,7 +200,7 @@ fn kinds_of_all_heads() {
     }
     // Heads exchanged, but each kind in its place: the head in a word is not asked.
     assert_eq!(display(2, 0, &[&M1[4..], &M1[..4]].concat()), Ok(SHOWN[1]));
-    let mut exchanged = M1;
+    let mut exchanged = M1.to_vec();
     exchanged.swap(0, 1);
     assert_eq!(causes(2, 1, &exchanged), [6, 6]);
     // Without kind 9 moved, the display has its words in their places.
@@ -213,7 +211,7 @@ fn kinds_of_all_heads() {
 /// Cause 3 before 2, and 2 before 6.
 #[test]
 fn refusals_in_order() {
-    let mut wrong = M1;
+    let mut wrong = M1.to_vec();
     wrong.swap(0, 1);
     assert_eq!(causes(2, 2, &wrong), [3, 3], "head and kinds");
     assert_eq!(causes(2, 2, &M1[..5]), [3, 3], "head and length");

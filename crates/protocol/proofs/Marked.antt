@@ -39,6 +39,6 @@ unfolding settingOf firstWordFits entryOf entryFits fresh chosenStart outcome co
 all-pass = refl
 
 -- each marked case gives what the documents say, M1 at index 0
-pub marked-case : (i : ℕ) → i < 21 → getD marked i nothing .found ≡ getD marked i nothing .expected
+pub marked-case : (i : ℕ) → i < 22 → getD marked i nothing .found ≡ getD marked i nothing .expected
 unfolding marked
 marked-case i h = same-list (getD marked i nothing .found) (getD marked i nothing .expected) (all-at passes marked nothing all-pass i h)

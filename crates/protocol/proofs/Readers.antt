@@ -3,19 +3,19 @@
 -- those that the program prints). Of any words: `planned-is-shown` (what the planner's reader reads, the display shows), `passes-over` and
 -- `old-file` (words of another kind change nothing).
 use mathlib.Core.Path.{_≡_, refl, sym, _∙_, ap, ap₂, subst}
-use mathlib.Core.Bool.{Bool, true, false, cond}
+use mathlib.Core.Bool.{Bool, true, false}
 use mathlib.Core.List.{List, [], _∷_, _++_, map, append-nil}
 use Prim.Native.Nat.{ℕ, zero, suc, _+_, _*_, _/_, _%_, _≤_, _<_}
 use native.Mathlib.Omega.{arith}
 use lib.Dec.{leb, eqb}
 use lib.ListN.{length, getD, take, drop}
 use lib.Seq.{ext-getD, take-append-seam}
-use lib.IntN.{ℤ, pos, subℕ}
+use lib.IntN.{ℤ, subℕ}
 use borrow.Author.Tests.{le-leb, eqb-true, ltb-true, lt-ltb, ne-eqb}
 use mathlib.Core.Logic.{_≢_}
 use Rattle.protocol.specs.Types.{HeadRecord, Setting, BadLength, BadFirstWord, BadEntry, Verdict, Accepted, Refused}
 use Rattle.protocol.specs.Words.{kindOf, settingAt}
-use Rattle.protocol.specs.Record.{numberOr0, readingOr0, chosenStart, outcome, correction}
+use Rattle.protocol.specs.Record.{readingOr0, chosenStart, outcome, correction}
 use Rattle.protocol.specs.Run.{History, recordOf, ran, runSheet}
 use Rattle.protocol.specs.Results.{ifAdopted, outcomeWord, adjustmentWord, startWord, headWords, wordsPerHead, wordOf, resultWords, Replay, replay}
 use Rattle.protocol.specs.Claim.{endingInWords}
@@ -78,15 +78,10 @@ difference : (r : HeadRecord) → subℕ (ifAdopted r (r .adjustment .0)) (ifAdo
 unfolding correction
 difference r = cases (eqb (outcome r) 2) (λ t. rw t refl) (λ t. rw t refl)
 
-shown-correction : (r : HeadRecord) → cond (eqb (outcome r) 2) (subℕ (ifAdopted r (r .adjustment .0)) (ifAdopted r (readingOr0 (chosenStart r)))) (pos 0) ≡ correctionIfAdopted r
-unfolding correction
-shown-correction r = cases (eqb (outcome r) 2) (λ t. rw t refl) (λ t. rw t refl)
-
 shows : {q : ℕ} {r : HeadRecord} → Says q r → shownIn (outcomeWord q r) (adjustmentWord r) (startWord r) ≡ shownOf r
 shows {q} {r} s =
-    rw (s .outcome-is, s .candidate-is, s .adjuster-is, s .adjustment-is, s .start-is)
-    (ap (λ (z : ℤ). pos (outcome r) ∷ pos (ifAdopted r (numberOr0 (r .vote .choice))) ∷ pos (ifAdopted r (numberOr0 (r .adjust .choice)))
-    ∷ pos (ifAdopted r (r .adjustment .0)) ∷ pos (ifAdopted r (readingOr0 (chosenStart r))) ∷ z ∷ []) (shown-correction r))
+    rw (s .outcome-is, s .candidate-is, s .adjuster-is, s .adjustment-is, s .start-is, difference r)
+    (cases (eqb (outcome r) 2) (λ t. rw t refl) (λ t. rw t refl))
 
 -- WORDS THAT BOTH READ: four a head, the kinds in their places
 

@@ -1,7 +1,7 @@
 -- Document 01, "The bench sheet, and its neighbours": the cases marked M, as entries of one table, with what document 02 adds to it.
 use mathlib.Core.List.{List, [], _∷_, _++_, map}
 use Prim.Native.Nat.{ℕ}
-use lib.ListN.{length, drop, replicate}
+use lib.ListN.{length, take, drop, replicate}
 use Rattle.protocol.specs.Types.{Setting, Entry}
 use Rattle.protocol.specs.Words.{settingAt, entryAt}
 use Rattle.protocol.specs.Spelling.{entryWords}
@@ -135,12 +135,16 @@ marked =
     -- no correction without outcome 2, whatever the words: `0 1 0 0 5 3 0`
     ∷ gives (toldLine 0 (display 2 0 (0x61000000 ∷ 0x70000005 ∷ 0x80000003 ∷ keep isShown (drop 4 m1Words))))
     (48 ∷ 32 ∷ 49 ∷ 32 ∷ 48 ∷ 32 ∷ 48 ∷ 32 ∷ 53 ∷ 32 ∷ 51 ∷ 32 ∷ 48 ∷ 10 ∷ [])
-    -- the planner's reader tells `2 0 0 1286 1313 -27` of head 1, and 1 start, 1 vote and 1 adjust
-    ∷ gives (toldLine 1 (plan 2 1 m1Words))
-    (49 ∷ 32 ∷ 50 ∷ 32 ∷ 48 ∷ 32 ∷ 48 ∷ 32 ∷ 49 ∷ 50 ∷ 56 ∷ 54 ∷ 32 ∷ 49 ∷ 51 ∷ 49 ∷ 51 ∷ 32 ∷ 45 ∷ 50 ∷ 55 ∷ 32 ∷ 49 ∷ 32 ∷ 49 ∷ 32 ∷ 49 ∷ 10 ∷ [])
+    -- the planner's reader tells `2 0 0 1286 1313 -27` of head 1, and 1 start, 1 vote and 1 adjust; 3, 2 and 1 by another fourth word
+    ∷ gives (toldLine 1 (plan 2 1 m1Words) ++ toldLine 1 (plan 2 1 (take 7 m1Words ++ (0x90302010 ∷ []))))
+    (49 ∷ 32 ∷ 50 ∷ 32 ∷ 48 ∷ 32 ∷ 48 ∷ 32 ∷ 49 ∷ 50 ∷ 56 ∷ 54 ∷ 32 ∷ 49 ∷ 51 ∷ 49 ∷ 51 ∷ 32 ∷ 45 ∷ 50 ∷ 55 ∷ 32 ∷ 49 ∷ 32 ∷ 49 ∷ 32 ∷ 49 ∷ 10
+    ∷ 49 ∷ 32 ∷ 50 ∷ 32 ∷ 48 ∷ 32 ∷ 48 ∷ 32 ∷ 49 ∷ 50 ∷ 56 ∷ 54 ∷ 32 ∷ 49 ∷ 51 ∷ 49 ∷ 51 ∷ 32 ∷ 45 ∷ 50 ∷ 55 ∷ 32 ∷ 51 ∷ 32 ∷ 50 ∷ 32 ∷ 49 ∷ 10 ∷ [])
     -- causes 3, 2 and 6 in this order, each with all that come after it; and the kinds of a head that is not asked for
     ∷ gives (map (λ x. verdictNumber (x .verdict)) (display 2 2 (0x70000000 ∷ []) ∷ display 2 0 (0x70000000 ∷ []) ∷ display 2 0 (0x80000000 ∷ m1Words)
     ∷ display 2 0 (0x62000000 ∷ 0x70000506 ∷ 0x800004EC ∷ replicate 3 0x62100000) ∷ plan 17 0 m1Words ∷ plan 2 0 (keep isShown m1Words)
     ∷ plan 2 0 (replicate 8 0x62000000) ∷ plan 2 0 m1Words ∷ []))
     (3 ∷ 2 ∷ 2 ∷ 6 ∷ 3 ∷ 2 ∷ 6 ∷ 0 ∷ [])
+    -- "set whatever the outcome": of M1's first 13 entries, each head has outcome 0, and has sent a start, a vote and no adjust
+    ∷ gives (replayed (replay (take 41 (m1 0x2064000A)) (replicate 8 1)))
+    (0 ∷ 0 ∷ 0x60000000 ∷ 0x70000000 ∷ 0x80000000 ∷ 0x90101000 ∷ 0x60100000 ∷ 0x70000000 ∷ 0x80000000 ∷ 0x90101000 ∷ [])
     ∷ []

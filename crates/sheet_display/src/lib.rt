@@ -60,6 +60,7 @@ fn is_shown(w: u32) -> bool
     (6 <= kind_of(w)) & (kind_of(w) <= 8)
 }
 
+// What is noted of the words that are shown, in one pass over all.
 fn keep_shown(head: u32, words: &[u32]) -> Kept
     ensures { λ k. ⌜ AreKept head (now (words .entry)) k ⌝ }
 {
