@@ -5,14 +5,19 @@ cd "$(dirname "$0")/.."
 out=target/examples
 mkdir -p "$out"
 
+# compile EXAMPLE FILE..: with these sources and libraries
+compile() {
+    name=$1
+    shift
+    "${CC:-cc}" -std=c99 -O2 -Wall -Wextra -pedantic -Werror -Iinclude "examples/$name.c" "$@" -o "$out/$name"
+}
+
 # build LIBRARY EXAMPLE..
 build() {
     library=$1
     shift
     rt staticlib "$library"
-    for name in "$@"; do
-        "${CC:-cc}" -std=c99 -O2 -Wall -Wextra -pedantic -Werror -Iinclude "examples/$name.c" "target/staticlib/lib$library.a" -o "$out/$name"
-    done
+    for example in "$@"; do compile "$example" "target/staticlib/lib$library.a"; done
 }
 
 # prints EXAMPLE..: each prints what its file has
@@ -47,6 +52,7 @@ drafts() {
 build board_c two_boards edges other_candidate
 prints two_boards edges other_candidate
 build sheet_c one_sheet recorder draft bus_load
+compile bench examples/bench/*.c examples/firmware.c target/staticlib/libboard_c.a target/staticlib/libsheet_c.a
 prints one_sheet
 
 # M1 from its numbers is M1 word for word, and replays to M1's lines
@@ -84,4 +90,14 @@ diff examples/bus_load.expected "$out/bus_load.out"
 refuses "1 0" bus_load <samples/cause-1.sheet
 refuses "2 0" bus_load <samples/cause-2-bytes.sheet
 refuses "9 8" bus_load <samples/cause-9.sheet
+
+# the simulated bench: a round that keeps all premises and one that does not as tables, and a report of a thousand; replay
+# finds the same premise broken in the second one's sheet
+for rounds in "1 2" "1 346" "1000 1"; do
+    "$out/bench" $rounds
+done >"$out/bench.out"
+diff examples/bench.expected "$out/bench.out"
+"$out/bench" 1 346 sheet | target/bin/replay | tail -n 1 >"$out/bench.premises"
+echo "premises 5" | diff - "$out/bench.premises"
+! "$out/bench" 0 1 2>/dev/null
 echo ok
