@@ -21,31 +21,12 @@ shift 2
 cd "$(dirname "$0")/../.."
 work=$PWD/target/fuzz/$target
 cover=inline-8bit-counters,pc-table,trace-cmp
+. boards/module.sh
 mkdir -p "$work/seeds" "$work/inputs"
 
-# Links to all that is in a folder but one name.
-link_but() { # FROM NAME TO
-    mkdir -p "$3"
-    for file in "$1"/*; do
-        if [ "${file##*/}" != "$2" ]; then ln -sf "$file" "$3/"; fi
-    done
-}
-
-# The library compiled once more with the fuzzer's counters, from the module that was proved: the toolchain's folder is
-# copied as links, with a compiler that compiles what it is given as asked, and then again.
+# The library compiled once more, with the fuzzer's counters, from the module that was proved.
 covered() {
-    kit=${RATTLE_HOME:-$(dirname "$(dirname "$(readlink -f "$(command -v rt)")")")}
-    own=on/$(uname -m) copy=$work/kit
-    rm -rf "$copy"
-    link_but "$kit" on "$copy"
-    link_but "$kit/$own" toolchain "$copy/$own"
-    link_but "$kit/$own/toolchain" bin "$copy/$own/toolchain"
-    link_but "$kit/$own/toolchain/bin" clang "$copy/$own/toolchain/bin"
-    compiler=$kit/$own/toolchain/bin/clang
-    printf '#!/bin/sh\n"%s" "$@" && "%s" "$@" -fsanitize-coverage=%s -o "%s"\n' \
-        "$compiler" "$compiler" "$cover" "$work/covered.o" > "$copy/$own/toolchain/bin/clang"
-    chmod +x "$copy/$own/toolchain/bin/clang"
-    RATTLE_HOME=$copy rt staticlib "$crate"
+    compile_again "$crate" "$work" "-fsanitize-coverage=$cover" -o "$work/covered.o"
     rm -f "$work/lib$crate.a"
     ar rcs "$work/lib$crate.a" "$work/covered.o"
     cp "target/stamp/$crate" "$work/stamp"
