@@ -23,7 +23,9 @@ static struct {
     uint32_t n, own, base, now, next;
     uint32_t choice[2];          /* the candidate and the adjuster, by the frames that the head sent; n if none */
     uint32_t serial[2][HEADS];   /* the next vote and adjust of each sender */
-    uint32_t talks, outcome, closed;
+    uint32_t talks;              /* frames of other heads come */
+    uint32_t width;              /* what they carry is mostly below */
+    uint32_t outcome, closed;
 } state;
 
 static struct {
@@ -179,7 +181,8 @@ static void draw_frame(uint32_t kind, daisarnica_input *x)
     x->serial = one_in(12) ? pick(16) : *serial;
     if (*serial < 15) ++*serial;
     x->choice = choice == state.n || one_in(8) ? pick(state.n) : choice;
-    x->carried = one_in(3) ? pick(4) : one_in(3) ? state.now : pick(TIMES);
+    x->carried = pick(one_in(3) ? TIMES : state.width);
+    if (one_in(5)) x->carried = state.now;
     x->none = kind == VOTES && one_in(5);
     if (x->none) x->carried = 0;
 }
@@ -261,6 +264,7 @@ static void fresh(uint32_t n, uint32_t f, uint32_t own)
 /* A fresh head, after one that may be refused. */
 static void begin(void)
 {
+    static const uint32_t widths[] = {1, 3, 100, TIMES};
     uint32_t any_n = any_below(19), any_f = any_below(4), any_own = any_below(18);
     uint32_t n = one_in(2) ? 2 + pick(4) : 2 + pick(HEADS - 1), own = pick(n);
 
@@ -272,6 +276,7 @@ static void begin(void)
     state.base = any();
     state.choice[VOTES] = state.choice[ADJUSTS] = n;
     state.talks = !one_in(5);
+    state.width = widths[pick(4)];
 }
 
 /* One head's round, and a counter that may be too far past its base. */

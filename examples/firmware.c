@@ -72,19 +72,15 @@ static void start_timers(firmware *w, const daisarnica_input *x, uint32_t sent)
 static event act(firmware *w, const daisarnica_input *input, uint32_t counter)
 {
     event x;
-    daisarnica_frame sent;
 
     memset(&x, 0, sizeof x);
     x.input = *input;
     x.cause = daisarnica_reading(counter, w->base, &x.input.reading);
-    if (x.cause == DAISARNICA_DONE) x.cause = daisarnica_action(&w->record, &x.input, &sent);
+    if (x.cause == DAISARNICA_DONE) x.cause = daisarnica_action(&w->record, &x.input, &x.frame);
     if (x.cause != DAISARNICA_DONE) return x;
     x.taken = 1;
-    start_timers(w, &x.input, sent.action);
-    if (sent.action) {
-        x.out_frames = 1;
-        x.out = to_can(w, &sent);
-    }
+    start_timers(w, &x.input, x.frame.action);
+    if (x.frame.action) x.out = to_can(w, &x.frame);
     return x;
 }
 

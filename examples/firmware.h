@@ -48,12 +48,12 @@ typedef struct {
 } firmware;
 
 /* What an event came to. If taken is 0, nothing has changed: the library refused it for the cause, or, if that is 0 too, the
- * frame was none for it. If out_frames is 1, out is to be sent. */
+ * frame was none for it. If frame.action is not 0, out is to be sent: it is frame, laid out for CAN. */
 typedef struct {
     int taken;
     uint32_t cause;
     daisarnica_input input;
-    int out_frames;
+    daisarnica_frame frame;
     can_frame out;
 } event;
 

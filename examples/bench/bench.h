@@ -21,8 +21,14 @@
 /* A head sends one start, and a vote or adjust for each candidate or adjuster at most. */
 #define MOST_WAITING (1 + 2 * MOST_HEADS)
 
+/* A frame, and what the recorder notes of it, as its sender's library gave it. */
 typedef struct {
     can_frame frame;
+    uint32_t sender, serial;
+} sent_frame;
+
+typedef struct {
+    sent_frame sent;
     uint32_t ready; /* not sent before */
 } waiting_frame;
 
@@ -50,7 +56,7 @@ typedef struct {
 typedef struct {
     uint32_t at, head;
     int confirms;
-    can_frame frame;
+    sent_frame sent;
 } arrival;
 
 #define MOST_ARRIVALS 512

@@ -48,9 +48,11 @@ static void receive_start(bench *b, head *h, uint32_t sender)
     h->received[sender] = b->now;
 }
 
-static void record(bench *b, uint32_t h, const daisarnica_input *x)
+/* The recorder notes whose frame was taken, and which, by what its sender sent and not by what the receiver made of it. */
+static void record(bench *b, uint32_t h, const daisarnica_input *x, const sent_frame *taken)
 {
-    const uint32_t entry[DAISARNICA_ENTRY_NUMBERS] = {b->now, x->reading, h, x->action, x->sender, x->serial};
+    uint32_t sender = taken ? taken->sender : 0, serial = taken ? taken->serial : 0;
+    const uint32_t entry[DAISARNICA_ENTRY_NUMBERS] = {b->now, x->reading, h, x->action, sender, serial};
 
     if (b->count + DAISARNICA_ENTRY_NUMBERS > DAISARNICA_SHEET_NUMBERS) {
         fprintf(stderr, "more entries than a sheet has room for\n");
@@ -59,32 +61,35 @@ static void record(bench *b, uint32_t h, const daisarnica_input *x)
     memcpy(b->numbers + b->count, entry, sizeof entry);
     b->count += DAISARNICA_ENTRY_NUMBERS;
     b->heads[h].last = x->reading;
-    if (x->action == DAISARNICA_START_DELIVERED) receive_start(b, &b->heads[h], x->sender);
+    if (x->action == DAISARNICA_START_DELIVERED) receive_start(b, &b->heads[h], sender);
 }
 
-static void put(head *h, const can_frame *frame, uint32_t ready)
+/* The controller has a frame of its head to send. Votes and adjusts may have to wait in it. */
+static void put(bench *b, uint32_t h, const event *x)
 {
-    h->waiting[h->waits].frame = *frame;
-    h->waiting[h->waits].ready = ready;
-    h->waits++;
+    head *own = &b->heads[h];
+    uint32_t phase = (x->frame.action - DAISARNICA_START_DELIVERED) / 3;
+    waiting_frame *w = &own->waiting[own->waits++];
+
+    own->frames[phase]++;
+    w->sent.frame = x->out;
+    w->sent.sender = h;
+    w->sent.serial = x->frame.serial;
+    w->ready = b->now + (phase ? own->slow : 0);
 }
 
 /* What an event came to at head h, whose record was as it is here before it: noted, and its frame handed to the controller.
  * A refusal is counted, and must have changed nothing. */
-static void note(bench *b, uint32_t h, const daisarnica_head *before, const event *x)
+static void note(bench *b, uint32_t h, const daisarnica_head *before, const event *x, const sent_frame *taken)
 {
     head *own = &b->heads[h];
-    uint32_t phase = 2 - (x->out.id >> 4 & 3);
 
-    if (x->taken) record(b, h, &x->input);
+    if (x->taken) record(b, h, &x->input, taken);
     if (x->cause) {
         b->refused[x->cause]++;
         b->changed += memcmp(before, &own->w.record, sizeof *before) != 0;
     }
-    if (x->out_frames) {
-        own->frames[phase]++;
-        put(own, &x->out, b->now + (phase ? own->slow : 0));
-    }
+    if (x->frame.action) put(b, h, x);
     set_timers(own, b->now);
 }
 
@@ -94,7 +99,7 @@ static void timer(bench *b, uint32_t h, uint32_t action)
     daisarnica_head before = own->w.record;
     event x = firmware_timer(&own->w, action, counter_at(own, b->now));
 
-    note(b, h, &before, &x);
+    note(b, h, &before, &x, NULL);
 }
 
 static void arrive(bench *b, const arrival *a)
@@ -106,15 +111,15 @@ static void arrive(bench *b, const arrival *a)
 
     if (!runs(own, b->now)) return;
     if (a->confirms) {
-        firmware_confirmed(&own->w, &a->frame, counter);
+        firmware_confirmed(&own->w, &a->sent.frame, counter);
         set_timers(own, b->now);
         return;
     }
-    x = firmware_frame(&own->w, &a->frame, counter);
-    note(b, a->head, &before, &x);
+    x = firmware_frame(&own->w, &a->sent.frame, counter);
+    note(b, a->head, &before, &x, &a->sent);
 }
 
-static void expect(bench *b, uint32_t at, uint32_t h, int confirms, const can_frame *frame)
+static void expect(bench *b, uint32_t at, uint32_t h, int confirms, const sent_frame *sent)
 {
     arrival *a = &b->arrivals[b->arrivals_count++];
 
@@ -125,20 +130,23 @@ static void expect(bench *b, uint32_t at, uint32_t h, int confirms, const can_fr
     a->at = at;
     a->head = h;
     a->confirms = confirms;
-    a->frame = *frame;
+    a->sent = *sent;
 }
 
 /* The frame that has ended comes to the heads of this set, but for those that miss its sender's frames. */
-static void deliver(bench *b, uint32_t sender, const can_frame *frame, uint32_t set)
+static void deliver(bench *b, const sent_frame *sent, uint32_t set)
 {
     uint32_t h;
 
     for (h = 0; h < b->set.n; h++) {
         head *to = &b->heads[h];
 
-        if (set >> h & 1 && !(to->missed >> sender & 1)) expect(b, b->bus_free + pick(b, to->latency + 1), h, 0, frame);
+        if (set >> h & 1 && !(to->missed >> sent->sender & 1))
+            expect(b, b->bus_free + pick(b, to->latency + 1), h, 0, sent);
     }
 }
+
+static uint32_t waiting_id(const head *h, size_t i) { return h->waiting[i].sent.frame.id; }
 
 /* A head's first frame of the lowest identifier among those that are ready; waits if there is none. */
 static size_t first_waiting(const head *h, uint32_t now)
@@ -146,8 +154,7 @@ static size_t first_waiting(const head *h, uint32_t now)
     size_t first = h->waits, i;
 
     for (i = 0; i < h->waits; i++)
-        if (h->waiting[i].ready <= now && (first == h->waits || h->waiting[i].frame.id < h->waiting[first].frame.id))
-            first = i;
+        if (h->waiting[i].ready <= now && (first == h->waits || waiting_id(h, i) < waiting_id(h, first))) first = i;
     return first;
 }
 
@@ -160,9 +167,9 @@ static uint32_t arbitrate(const bench *b)
         const head *own = &b->heads[h];
         size_t i = first_waiting(own, b->now);
 
-        if (i == own->waits || !runs(own, b->now) || own->waiting[i].frame.id >= lowest) continue;
+        if (i == own->waits || !runs(own, b->now) || waiting_id(own, i) >= lowest) continue;
         winner = h;
-        lowest = own->waiting[i].frame.id;
+        lowest = waiting_id(own, i);
     }
     return winner;
 }
@@ -173,17 +180,17 @@ static void send(bench *b, uint32_t sender)
 {
     head *h = &b->heads[sender];
     size_t i = first_waiting(h, b->now);
-    can_frame frame = h->waiting[i].frame;
+    sent_frame sent = h->waiting[i].sent;
     uint32_t some = pick(b, 65536);
 
     b->bus_free = b->now + (LEAST_BITS + pick(b, STUFFED_BITS + 1)) * b->bit;
     if (!runs(h, b->bus_free) || pick(b, 100) < b->noise) {
-        deliver(b, sender, &frame, some & ~h->lost);
+        deliver(b, &sent, some & ~h->lost);
         b->bus_free += 20 * b->bit;
         return;
     }
-    deliver(b, sender, &frame, ~h->lost);
-    if (!(h->lost & correct_bits(b))) expect(b, b->bus_free, sender, 1, &frame);
+    deliver(b, &sent, ~h->lost);
+    if (!(h->lost & correct_bits(b))) expect(b, b->bus_free, sender, 1, &sent);
     h->waits--;
     memmove(h->waiting + i, h->waiting + i + 1, (h->waits - i) * sizeof h->waiting[0]);
 }
