@@ -1,5 +1,7 @@
 /* draw.c: the settings, crystals and faults of a round, all drawn from its seed. Most rounds keep the premises, with faulty
  * heads or without; in the others something is done against one of them. Whether it is broken the judge says. */
+#include <stdio.h>
+#include <stdlib.h>
 #include <string.h>
 
 #include "bench.h"
@@ -66,7 +68,10 @@ static void draw_head(bench *b, uint32_t own, uint32_t apart)
     h->frames[0] = h->frames[1] = h->frames[2] = 0;
     memset(h->due, 0xFF, sizeof h->due);
     memset(h->at, 0xFF, sizeof h->at);
-    firmware_begin(&h->w, &b->set, own, h->counter - between(b, 0, apart));
+    if (firmware_begin(&h->w, &b->set, own, h->counter - between(b, 0, apart)) != DAISARNICA_DONE) {
+        fprintf(stderr, "no fresh record\n");
+        exit(2);
+    }
 }
 
 /* One fault of a head: it stops, from the beginning or later, loses frames to some, misses frames of some, has a crystal
