@@ -8,13 +8,14 @@ work=$PWD/target/boards
 level=${LEVEL:--O3}
 . boards/module.sh
 
-# choose TARGET: the processor's words for the compilers, where its code and its memory are, and its emulator
+# choose TARGET: the processor's words for the compilers, where its code and its memory are, its emulator, and the MHz of the
+# clock that it has there
 choose() {
     target=$1
     case $target in
-        cortex-m0) triple=thumbv6m-none-eabi processor=-mcpu=cortex-m0 machine=microbit ;;
-        cortex-m3) triple=thumbv7m-none-eabi processor=-mcpu=cortex-m3 machine=mps2-an385 ;;
-        rv32) triple=riscv32-unknown-elf processor="-march=rv32imac -mabi=ilp32" machine=virt ;;
+        cortex-m0) triple=thumbv6m-none-eabi processor=-mcpu=cortex-m0 machine=microbit clock=16 ;;
+        cortex-m3) triple=thumbv7m-none-eabi processor=-mcpu=cortex-m3 machine=mps2-an385 clock=25 ;;
+        rv32) triple=riscv32-unknown-elf processor="-march=rv32imac -mabi=ilp32" machine=virt clock=1000 ;;
     esac
     case $target in
         cortex-*)
@@ -90,13 +91,15 @@ library() {
     awk -f boards/stack.awk "$folder/board_c.su" "$folder/board_c.s" >"$folder/stack"
 }
 
-# emulate NAME SOURCE: what the program prints on the target's processor
+# emulate NAME SOURCE [WORD..]: what the program prints on the target's processor; words for the emulator may follow
 emulate() {
+    name=$1 source=$2
+    shift 2
     "$tool-gcc" $processor $library -std=gnu99 -O2 -Wall -Wextra -Werror -ffunction-sections -Iinclude -nostartfiles \
         -Wl,--gc-sections,-z,noexecstack,--defsym=code_at=$code_at,--defsym=memory_at=$memory_at -T boards/board.ld \
-        boards/start.c "$2" "$folder/libboard_c.a" -o "$folder/$1" &&
-    timeout 300 $emulator -M $machine -display none -serial null -monitor none \
-        -semihosting-config enable=on,target=native -kernel "$folder/$1" >"$folder/$1.out"
+        -DCLOCK=$clock boards/start.c "$source" "$folder/libboard_c.a" -o "$folder/$name" &&
+    timeout 300 $emulator -M $machine -display none -serial null -monitor none "$@" \
+        -semihosting-config enable=on,target=native -kernel "$folder/$name" >"$folder/$name.out"
 }
 
 # compare NAME SOURCE EXPECTED
@@ -123,8 +126,8 @@ rt staticlib board_c
 "${CC:-cc}" -std=c99 -O2 -Wall -Wextra -pedantic -Werror -Iinclude boards/stream.c target/staticlib/libboard_c.a \
     -o "$work/x86-64/stream"
 "$work/x86-64/stream" >"$work/x86-64/stream.out"
-for name in cortex-m0 cortex-m3 rv32; do
-    choose $name
+for board in cortex-m0 cortex-m3 rv32; do
+    choose $board
     mkdir -p "$folder"
     retarget
     library
@@ -132,6 +135,7 @@ for name in cortex-m0 cortex-m3 rv32; do
         compare $example "examples/$example.c" "examples/$example.expected"
     done
     compare stream boards/stream.c "$work/x86-64/stream.out"
+    emulate cost boards/cost.c -icount shift=0
     tell >"$folder/line"
 done
 grep -v '^[0-9]' "$work/x86-64/stream.out"

@@ -67,6 +67,33 @@ static void put(const char *bytes, size_t count)
     if (ask(WRITE, words) != 0) _exit(FAULT);
 }
 
+/* A clock that goes up; with the emulator's -icount it goes by the instructions. */
+uint32_t ticks(void);
+
+#if defined(__riscv)
+uint32_t ticks(void)
+{
+    uint32_t x;
+
+    __asm__ volatile(".option push\n.option arch, +zicsr\ncsrr %0, minstret\n.option pop" : "=r"(x));
+    return x;
+}
+
+static void start_clock(void) {}
+#else
+/* The processor's 24-bit timer, which goes down. */
+static volatile uint32_t *const timer = (volatile uint32_t *)0xE000E010;
+
+uint32_t ticks(void) { return 0xFFFFFF - timer[2]; }
+
+static void start_clock(void)
+{
+    timer[1] = 0xFFFFFF;
+    timer[2] = 0;
+    timer[0] = 5; /* on, by the processor's clock */
+}
+#endif
+
 __attribute__((aligned(4), used)) static void fault(void) { _exit(FAULT); }
 
 __attribute__((used)) static void start(void)
@@ -74,6 +101,7 @@ __attribute__((used)) static void start(void)
     memcpy(data_start, data_from, (size_t)(data_end - data_start));
     memset(bss_start, 0, (size_t)(bss_end - bss_start));
     setvbuf(stdout, NULL, _IONBF, 0); /* what was printed before a fault is seen */
+    start_clock();
     exit(main());
 }
 
