@@ -1,7 +1,8 @@
 /* daisarnica.h: one head of a drawing bench, for boards written in C.
  *
  * A board keeps one record of its head, in memory of its own, and hands it to each call. A call takes no other memory
- * than what is lent to it, has no state between calls, and always returns. It needs memset and nothing else.
+ * than what is lent to it, has no state between calls, and always returns. It needs memset, on some processors memcpy too,
+ * and nothing else. docs/FIRMWARE.md says which event of a board is which action.
  *
  * Every number has an answer: what is out of range is refused with its cause, and a refusal leaves the record as it
  * was. What the caller owes: each pointer is to memory of its own that holds the whole struct; the structs of one call
