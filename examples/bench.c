@@ -70,10 +70,10 @@ static void compare_with_lower(result *r, uint32_t h)
     uint32_t lower;
 
     for (lower = 0; lower < h; lower++)
-        if (has_clock(r, lower)) compare_clocks(r, lower, h);
+        if (has_clock(r, lower) && r->ending[lower].candidate == r->ending[h].candidate) compare_clocks(r, lower, h);
 }
 
-/* All heads look in one microsecond; of the correct ones that have a clock every two are compared. */
+/* All heads look in one microsecond; of the correct ones every two that have a clock of the same candidate are compared. */
 static void look_and_compare(result *r)
 {
     uint32_t h;
