@@ -29,6 +29,7 @@ typedef struct {
     int64_t room;                         /* the least that a bound leaves above its distance */
     uint32_t written, judged, answer[DAISARNICA_ANSWER_NUMBERS];
     uint32_t otherwise;                   /* heads of which the replay tells otherwise */
+    uint32_t stray;                       /* looks from which the next round's clock would not go on */
 } result;
 
 static void read_endings(result *r)
@@ -73,14 +74,28 @@ static void compare_with_lower(result *r, uint32_t h)
         if (has_clock(r, lower) && r->ending[lower].candidate == r->ending[h].candidate) compare_clocks(r, lower, h);
 }
 
+/* By the next round's base, with the start time for an interval, a head's counter reads as its corrected clock. */
+static int goes_on(const result *r, uint32_t h)
+{
+    const head *own = &b.heads[h];
+    uint32_t interval = b.set.start_time, reading;
+    int64_t corrected = (int64_t)own->last + r->correction[h];
+    uint32_t cause = daisarnica_reading(counter_at(own, b.now), firmware_next_base(&own->w, interval), &reading);
+
+    return cause == DAISARNICA_DONE && reading == corrected - interval;
+}
+
 /* All heads look in one microsecond; of the correct ones every two that have a clock of the same candidate are compared. */
 static void look_and_compare(result *r)
 {
     uint32_t h;
 
     look(&b, b.now + 1 + pick(&b, pick(&b, 2) ? 20 * MILLION : 1000));
-    for (h = 0; h < b.set.n; h++)
-        if (has_clock(r, h)) compare_with_lower(r, h);
+    for (h = 0; h < b.set.n; h++) {
+        if (!has_clock(r, h)) continue;
+        compare_with_lower(r, h);
+        r->stray += !goes_on(r, h);
+    }
 }
 
 /* What the board says of head h is what the replay tells of it; and so are the frames that went to its controller. */
@@ -154,7 +169,7 @@ static int is_right(const result *r)
 {
     int kept = r->judged == 0;
 
-    return accepted(r) && !r->otherwise && !b.changed && !(kept && (!agreed(r) || (r->looked && r->room < 0)));
+    return accepted(r) && !r->otherwise && !r->stray && !b.changed && !(kept && (!agreed(r) || (r->looked && r->room < 0)));
 }
 
 static void print_state(const head *h)
@@ -222,7 +237,7 @@ static void print_round(const result *r, uint32_t seed)
 
 /* The report of many rounds. */
 typedef struct {
-    unsigned long rounds, entries, longest, wrapped, heads, refused_sheets, otherwise, refused[CAUSES], changed;
+    unsigned long rounds, entries, longest, wrapped, heads, refused_sheets, otherwise, stray, refused[CAUSES], changed;
     unsigned long broken[9], first[9];      /* by the first broken premise, 0 for none */
     unsigned long divided[2], above[2];     /* without one common clock, and above the bound: kept, and broken */
     unsigned long faulty, led, again, repeated; /* kept ones: with faulty heads, led by another head than 0, in which a head
@@ -276,6 +291,7 @@ static void add(report *p, const result *r, uint32_t seed)
     p->refused_sheets += !accepted(r);
     p->heads += b.set.n;
     p->otherwise += r->otherwise;
+    p->stray += r->stray;
     p->wrapped += any_wrapped();
     p->entries += entries;
     p->changed += b.changed;
@@ -288,10 +304,10 @@ static void print_report(const report *p)
 {
     size_t i;
 
-    printf("rounds %lu, of %lu entries in all and %lu at most; in %lu a counter wrapped\n", p->rounds, p->entries, p->longest,
-           p->wrapped);
-    printf("all premises kept %lu, of these with faulty heads %lu, led by another head than 0 %lu,\n", p->broken[0], p->faulty,
-           p->led);
+    printf("rounds %lu, of %lu entries in all and %lu at most; in %lu a counter wrapped\n", p->rounds, p->entries,
+           p->longest, p->wrapped);
+    printf("all premises kept %lu, of these with faulty heads %lu, led by another head than 0 %lu,\n", p->broken[0],
+           p->faulty, p->led);
     printf("  with a head that voted again %lu, with a start received again %lu\n", p->again, p->repeated);
     for (i = 1; i <= 8; i++) printf("premise %d broken %lu, first by seed %lu\n", (int)i, p->broken[i], p->first[i]);
     printf("without one common clock: kept %lu, broken %lu\n", p->divided[0], p->divided[1]);
@@ -299,6 +315,7 @@ static void print_report(const report *p)
            (long)p->room);
     printf("sheets refused %lu\n", p->refused_sheets);
     printf("heads of which the replay tells otherwise %lu of %lu\n", p->otherwise, p->heads);
+    printf("looks from which the next round's clock would not go on %lu\n", p->stray);
 }
 
 static void print_refused(const report *p)

@@ -128,3 +128,8 @@ void firmware_confirmed(firmware *w, const can_frame *sent, uint32_t counter)
         daisarnica_reading(counter, w->base, &reading) == DAISARNICA_DONE)
         w->due[DAISARNICA_START_CONFIRMED] = reading + w->set.guard;
 }
+
+uint32_t firmware_next_base(const firmware *w, uint32_t interval)
+{
+    return w->base - (uint32_t)daisarnica_correction(&w->record) + interval;
+}

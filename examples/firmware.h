@@ -69,4 +69,8 @@ event firmware_frame(firmware *w, const can_frame *in, uint32_t counter);
 /* The controller confirms that this frame of one's own was sent. */
 void firmware_confirmed(firmware *w, const can_frame *sent, uint32_t counter);
 
+/* The base for the next round, which begins one interval after this one: by it the clock in use is this round's corrected
+ * clock less the interval. To be taken once the corrected clock has passed the interval. */
+uint32_t firmware_next_base(const firmware *w, uint32_t interval);
+
 #endif
