@@ -1,6 +1,6 @@
-/* What an action costs on a board: for the actions of a round at head 1, of 2 heads and of 16, the instructions of one call of
- * daisarnica_action. The emulator takes a nanosecond for each instruction; a call is made a thousand times, each time on a copy
- * of the record, and the same loop without the call is taken off. */
+/* What an action costs on a board: for the actions of a round at head 1, of 2 heads and of 16, the instructions of one call
+ * of daisarnica_action. The emulator takes a nanosecond for each instruction; a call is made a thousand times, each time on
+ * a copy of the record, and the same loop without the call is taken off. */
 #include <stdio.h>
 #include <string.h>
 
@@ -51,14 +51,24 @@ static daisarnica_input input_of(uint32_t action)
     return x;
 }
 
-/* After head 0's vote come those of all others but the last, with readings in falling order. */
+/* After one's own start comes that of head 0. */
+static void take_start(void)
+{
+    daisarnica_input x = input_of(DAISARNICA_START_DELIVERED);
+    daisarnica_frame frame;
+
+    x.sender = 0;
+    daisarnica_action(&head, &x, &frame);
+}
+
+/* After head 0's vote come those of all others but the last, with readings in rising order. */
 static void take_votes(uint32_t n)
 {
     daisarnica_input x = input_of(DAISARNICA_VOTE_DELIVERED);
     daisarnica_frame frame;
 
     for (x.sender = 2; x.sender + 1 < n; x.sender++) {
-        x.carried--;
+        x.carried++;
         daisarnica_action(&head, &x, &frame);
     }
 }
@@ -70,6 +80,7 @@ static unsigned long take(uint32_t n, uint32_t action)
     uint32_t cost = (ticks_of(daisarnica_action, &x) - ticks_of(nothing, &x)) / CLOCK;
 
     if (daisarnica_action(&head, &x, &frame) != DAISARNICA_DONE) printf("action %u is refused\n", (unsigned)action);
+    if (action == DAISARNICA_START_DELIVERED) take_start();
     if (action == DAISARNICA_VOTE_DELIVERED) take_votes(n);
     return cost;
 }

@@ -1,6 +1,6 @@
 #!/bin/sh
-# run.sh: builds the board library for small 32-bit processors from the module that was proved, runs the examples and a stream
-# of actions on emulated ones, and compares what they print with x86-64. Ends with a line for each target and with "same".
+# run.sh: builds the board library for small 32-bit processors from the module that was proved, runs the examples and a
+# stream of actions on emulated ones, and compares what they print with x86-64. Ends with a line for each target and "same".
 # LEVEL is the compiler's: -O3, the toolchain's own, or -Os for less code. All that is made is in target/boards.
 set -eu
 cd "$(dirname "$0")/.."
@@ -53,7 +53,7 @@ packages() {
     exit 1
 }
 
-# The proved module as text.
+# The proved module as text. It says the same: compiled as was asked of the module, it is the object in the archive.
 module() {
     rt check board_c
     if ! cmp -s target/stamp/board_c "$work/stamp"; then
@@ -61,6 +61,9 @@ module() {
             -o "$work/module.ll"
         cp target/stamp/board_c "$work/stamp"
     fi
+    rt staticlib board_c
+    sed "s|^.*\.bc\$|$work/module.ll|; s|^.*\.o\$|$work/module.o|" "$work/asked" | xargs -d '\n' "$compiler"
+    ar p target/staticlib/libboard_c.a | cmp - "$work/module.o"
 }
 
 # The module for the target: triple, data layout and processor are those that the compiler gives a function of C, and
@@ -81,14 +84,20 @@ retarget() {
 # unlike MODULE: all of it but for these words, in which the targets differ
 unlike() { sed '/^target /d; s/ "target-[a-z]*"="[^"]*"//g' "$1"; }
 
-# The library, by the toolchain's compiler with the toolchain's words but for the target's.
+# The library, by the toolchain's compiler with the toolchain's words but for the target's. The compiler must have nothing to
+# say: a processor that it does not know is no error to it.
 library() {
     "$compiler" --target=$triple $processor "$level" -ffunction-sections -fdata-sections -mllvm -trap-unreachable \
-        -mllvm -no-trap-after-noreturn -Werror -fstack-usage -c -x ir "$folder/module.ll" -o "$folder/board_c.o"
+        -mllvm -no-trap-after-noreturn -Werror -fstack-usage -c -x ir "$folder/module.ll" -o "$folder/board_c.o" \
+        2>"$folder/said" || true
+    if [ -s "$folder/said" ]; then
+        cat "$folder/said" >&2
+        exit 1
+    fi
     rm -f "$folder/libboard_c.a"
     "$tool-ar" rcs "$folder/libboard_c.a" "$folder/board_c.o"
-    "$tool-objdump" -dr "$folder/board_c.o" >"$folder/board_c.s"
-    awk -f boards/stack.awk "$folder/board_c.su" "$folder/board_c.s" >"$folder/stack"
+    "$tool-readelf" -rW "$folder/board_c.o" >"$folder/relocations"
+    awk -f boards/stack.awk "$folder/module.ll" "$folder/board_c.su" "$folder/relocations" >"$folder/stack"
 }
 
 # emulate NAME SOURCE [WORD..]: what the program prints on the target's processor; words for the emulator may follow
@@ -114,7 +123,7 @@ compare() {
 tell() {
     code=$("$tool-size" -A "$folder/board_c.o" | awk '$1 ~ /^\.(text|rodata)/ { sum += $2 } END { print sum }')
     outside=$("$tool-nm" -u "$folder/board_c.o" | awk '{ printf " %s", $2 }')
-    deepest=$(sort -n "$folder/stack" | tail -n 1 | cut -d ' ' -f 1)
+    deepest=$(awk '$2 > most { most = $2 } END { print most }' "$folder/stack")
     record=$(sed -n 's/^bytes //p' "$folder/edges.out")
     echo "$target: code $code bytes, stack $deepest, record $record, needs$outside: same as x86-64"
 }
@@ -122,7 +131,6 @@ tell() {
 packages
 mkdir -p "$work/x86-64"
 module
-rt staticlib board_c
 "${CC:-cc}" -std=c99 -O2 -Wall -Wextra -pedantic -Werror -Iinclude boards/stream.c target/staticlib/libboard_c.a \
     -o "$work/x86-64/stream"
 "$work/x86-64/stream" >"$work/x86-64/stream.out"
@@ -138,6 +146,6 @@ for board in cortex-m0 cortex-m3 rv32; do
     emulate cost boards/cost.c -icount shift=0
     tell >"$folder/line"
 done
-grep -v '^[0-9]' "$work/x86-64/stream.out"
+grep -v '^actions' "$work/x86-64/stream.out"
 cat "$work"/*/line
 echo same
