@@ -99,5 +99,5 @@ done >"$out/bench.out"
 diff examples/bench.expected "$out/bench.out"
 "$out/bench" 1 346 sheet | target/bin/replay | tail -n 1 >"$out/bench.premises"
 echo "premises 5" | diff - "$out/bench.premises"
-! "$out/bench" 0 1 2>/dev/null
+if "$out/bench" 0 1 2>"$out/bench.usage"; then exit 1; fi
 echo ok
