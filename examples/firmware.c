@@ -97,6 +97,16 @@ uint32_t firmware_begin(firmware *w, const round_settings *set, uint32_t own, ui
     return daisarnica_fresh(&w->record, set->n, set->f, own);
 }
 
+uint32_t firmware_due(const firmware *w, uint32_t counter)
+{
+    uint32_t first = 0, reading, i;
+
+    if (daisarnica_reading(counter, w->base, &reading) != DAISARNICA_DONE) return 0;
+    for (i = 0; i < ACTIONS; i++)
+        if (w->due[i] <= reading && w->due[i] < w->due[first]) first = i;
+    return first;
+}
+
 event firmware_timer(firmware *w, uint32_t action, uint32_t counter)
 {
     daisarnica_input input;

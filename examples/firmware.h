@@ -60,6 +60,9 @@ typedef struct {
 /* Begins a round at head own with a fresh record. Returns 0, or the cause that daisarnica_fresh gives. */
 uint32_t firmware_begin(firmware *w, const round_settings *set, uint32_t own, uint32_t base);
 
+/* The action whose timer has run out, the one that was due first; 0 if there is none. */
+uint32_t firmware_due(const firmware *w, uint32_t counter);
+
 /* The timer of this action has run out; also for action 0, a look at the clock at any time. */
 event firmware_timer(firmware *w, uint32_t action, uint32_t counter);
 

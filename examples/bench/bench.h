@@ -42,8 +42,7 @@ typedef struct {
     uint32_t lost, missed;               /* sets of heads: that its frames do not reach; whose frames it does not receive */
     uint32_t slow;                       /* its votes and adjusts wait so long in the controller */
     uint32_t dead;                       /* the action whose timer never runs out; 0 for none */
-    uint32_t due[ACTIONS], at[ACTIONS];  /* the readings at which its timers run out, and these as times */
-    uint32_t next;                       /* the action whose timer runs out first */
+    uint32_t timer;                      /* when its next timer runs out */
     waiting_frame waiting[MOST_WAITING]; /* first in, first out among equal identifiers */
     size_t waits;
     uint32_t last;                       /* the reading of its last action */

@@ -25,20 +25,16 @@ uint32_t correct_bits(const bench *b)
     return set;
 }
 
-/* After each event at a head: when its timers run out, and which one first. */
-static void set_timers(head *h, uint32_t now)
+/* After each event at a head: when its next timer runs out. */
+static void set_timer(head *h, uint32_t now)
 {
-    uint32_t i;
+    uint32_t first = NOT_DUE, i;
 
-    h->next = 0;
-    for (i = 0; i < ACTIONS; i++) {
-        if (h->due[i] != h->w.due[i]) {
-            h->due[i] = h->w.due[i];
-            h->at[i] = h->due[i] == NOT_DUE || i == h->dead ? NEVER : shown_from(h, h->due[i]);
-            if (h->at[i] < now) h->at[i] = now;
-        }
-        if (h->at[i] < h->at[h->next]) h->next = i;
-    }
+    h->w.due[h->dead] = NOT_DUE;
+    for (i = 0; i < ACTIONS; i++)
+        if (h->w.due[i] < first) first = h->w.due[i];
+    h->timer = first == NOT_DUE ? NEVER : shown_from(h, first);
+    if (h->timer < now) h->timer = now;
 }
 
 static void receive_start(bench *b, head *h, uint32_t sender)
@@ -90,16 +86,24 @@ static void note(bench *b, uint32_t h, const daisarnica_head *before, const even
         b->changed += memcmp(before, &own->w.record, sizeof *before) != 0;
     }
     if (x->frame.action) put(b, h, x);
-    set_timers(own, b->now);
+    set_timer(own, b->now);
 }
 
-static void timer(bench *b, uint32_t h, uint32_t action)
+static void take_timed(bench *b, uint32_t h, uint32_t action)
 {
     head *own = &b->heads[h];
     daisarnica_head before = own->w.record;
     event x = firmware_timer(&own->w, action, counter_at(own, b->now));
 
     note(b, h, &before, &x, NULL);
+}
+
+static void run_timer(bench *b, uint32_t h)
+{
+    const head *own = &b->heads[h];
+
+    b->now = own->timer;
+    take_timed(b, h, firmware_due(&own->w, counter_at(own, b->now)));
 }
 
 static void arrive(bench *b, const arrival *a)
@@ -112,7 +116,7 @@ static void arrive(bench *b, const arrival *a)
     if (!runs(own, b->now)) return;
     if (a->confirms) {
         firmware_confirmed(&own->w, &a->sent.frame, counter);
-        set_timers(own, b->now);
+        set_timer(own, b->now);
         return;
     }
     x = firmware_frame(&own->w, &a->sent.frame, counter);
@@ -260,7 +264,7 @@ static int go_on(bench *b)
     uint32_t arrivals = b->arrivals_count ? b->arrivals[i].at : NEVER;
 
     for (h = 0; h < b->set.n; h++) {
-        uint32_t ready = ready_at(b, &b->heads[h]), at = b->heads[h].at[b->heads[h].next];
+        uint32_t ready = ready_at(b, &b->heads[h]), at = b->heads[h].timer;
 
         if (ready < bus) bus = ready;
         if (at >= timers || !runs(&b->heads[h], at)) continue;
@@ -272,8 +276,7 @@ static int go_on(bench *b)
     } else if (arrivals != NEVER && arrivals <= timers && arrivals <= bus) {
         take_arrival(b, i);
     } else if (timers != NEVER && timers <= bus) {
-        b->now = timers;
-        timer(b, whose, b->heads[whose].next);
+        run_timer(b, whose);
     } else if (bus != NEVER) {
         b->now = bus;
         use_bus(b);
@@ -287,7 +290,7 @@ void run(bench *b)
 {
     uint32_t h;
 
-    for (h = 0; h < b->set.n; h++) set_timers(&b->heads[h], 0);
+    for (h = 0; h < b->set.n; h++) set_timer(&b->heads[h], 0);
     while (go_on(b)) {
     }
 }
@@ -298,5 +301,5 @@ void look(bench *b, uint32_t at)
 
     b->now = at;
     for (h = 0; h < b->set.n; h++)
-        if (runs(&b->heads[h], at)) timer(b, h, DAISARNICA_LOOK);
+        if (runs(&b->heads[h], at)) take_timed(b, h, DAISARNICA_LOOK);
 }

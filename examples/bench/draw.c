@@ -66,8 +66,6 @@ static void draw_head(bench *b, uint32_t own, uint32_t apart)
     h->lost = h->missed = h->slow = h->dead = h->last = h->starts = 0;
     h->waits = 0;
     h->frames[0] = h->frames[1] = h->frames[2] = 0;
-    memset(h->due, 0xFF, sizeof h->due);
-    memset(h->at, 0xFF, sizeof h->at);
     if (firmware_begin(&h->w, &b->set, own, h->counter - between(b, 0, apart)) != DAISARNICA_DONE) {
         fprintf(stderr, "no fresh record\n");
         exit(2);
