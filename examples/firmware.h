@@ -30,8 +30,8 @@ typedef struct {
     uint32_t start_time;  /* the reading at which to send the start */
     uint32_t guard;       /* from the confirmation of one's own start to action 3, the tightness at least */
     uint32_t turn;        /* from a rank's turn to the next one's: a frame is sent and taken in it */
-    uint32_t vote_time;   /* from the first start received to the vote close */
-    uint32_t adjust_time; /* from the first start received to the adjust close */
+    uint32_t vote_time;   /* from the first frame of the round to the vote close */
+    uint32_t adjust_time; /* from the first frame of the round to the adjust close */
 } round_settings;
 
 /* The actions that a timer brings: 1, 3, 4, 6, 7 and 9; due has the reading at which each of them is due. */
