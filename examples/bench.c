@@ -10,6 +10,7 @@
 #include <string.h>
 
 #include "bench/bench.h"
+#include "write_words.h"
 
 static bench b;
 static uint32_t sheet[DAISARNICA_SHEET_WORDS], out[DAISARNICA_RESULT_WORDS];
@@ -328,21 +329,6 @@ static void print_refused(const report *p)
     printf(" %lu of them changed something\n", p->changed);
 }
 
-static void write_word(uint32_t w)
-{
-    putchar((int)(w >> 24));
-    putchar((int)(w >> 16 & 255));
-    putchar((int)(w >> 8 & 255));
-    putchar((int)(w & 255));
-}
-
-static void write_sheet(void)
-{
-    size_t i;
-
-    for (i = 0; i < 2 + b.count / 2; i++) write_word(sheet[i]);
-}
-
 /* From so many rounds on each premise must have been broken, and each sort of kept round met. */
 #define ALL_MET 10000
 
@@ -400,11 +386,8 @@ int main(int argc, char **argv)
     if (rounds > 1) return play_many(rounds, seed) && !fflush(stdout) ? 0 : 1;
     r = play(seed);
     right = is_right(&r);
-    if (writes) {
-        write_sheet();
-    } else {
-        print_round(&r, seed);
-        print_refusals();
-    }
+    if (writes) return write_words(sheet, 2 + b.count / 2) || !right;
+    print_round(&r, seed);
+    print_refusals();
     return right && !b.changed && !fflush(stdout) ? 0 : 1;
 }

@@ -5,16 +5,9 @@
 #include <stdlib.h>
 
 #include "daisarnica_sheet.h"
+#include "write_words.h"
 
 static uint32_t sheet[DAISARNICA_DRAFT_WORDS(16)];
-
-static void write_word(uint32_t w)
-{
-    putchar((int)(w >> 24));
-    putchar((int)(w >> 16 & 255));
-    putchar((int)(w >> 8 & 255));
-    putchar((int)(w & 255));
-}
 
 /* What 32 bits cannot hold becomes the largest number that they can, and is refused like it. */
 static uint32_t number(const char *text)
@@ -32,7 +25,7 @@ static uint32_t number(const char *text)
 int main(int argc, char **argv)
 {
     uint32_t n, f, first, spacing, cause;
-    size_t words, i;
+    size_t words;
 
     if (argc != 2 && argc != 5) {
         fprintf(stderr, "usage: draft N [F FIRST SPACING]\n");
@@ -48,6 +41,5 @@ int main(int argc, char **argv)
         return 1;
     }
     words = DAISARNICA_DRAFT_WORDS((size_t)n);
-    for (i = 0; i < words; i++) write_word(sheet[i]);
-    return fflush(stdout) ? 1 : 0;
+    return write_words(sheet, words);
 }

@@ -5,6 +5,7 @@
 #include <stdlib.h>
 
 #include "daisarnica_sheet.h"
+#include "write_words.h"
 
 /* One number more than there may be, so that too many are noticed. */
 #define MOST (DAISARNICA_SHEET_NUMBERS + 1)
@@ -46,17 +47,9 @@ static size_t read_numbers(void)
     return count;
 }
 
-static void write_word(uint32_t w)
-{
-    putchar((int)(w >> 24));
-    putchar((int)(w >> 16 & 255));
-    putchar((int)(w >> 8 & 255));
-    putchar((int)(w & 255));
-}
-
 int main(int argc, char **argv)
 {
-    size_t count, words, i;
+    size_t count, words;
     uint32_t cause;
 
     if (argc != 6) {
@@ -71,6 +64,5 @@ int main(int argc, char **argv)
         return 1;
     }
     words = 2 + 3 * (count / DAISARNICA_ENTRY_NUMBERS);
-    for (i = 0; i < words; i++) write_word(sheet[i]);
-    return fflush(stdout) ? 1 : 0;
+    return write_words(sheet, words);
 }
