@@ -2,6 +2,7 @@
  * of daisarnica_action. The emulator takes a nanosecond for each instruction; a call is made a thousand times, each time on
  * a copy of the record, and the same loop without the call is taken off. */
 #include <stdio.h>
+#include <stdlib.h>
 #include <string.h>
 
 #include "daisarnica.h"
@@ -79,7 +80,7 @@ static unsigned long take(uint32_t n, uint32_t action)
     daisarnica_frame frame;
     uint32_t cost = (ticks_of(daisarnica_action, &x) - ticks_of(nothing, &x)) / CLOCK;
 
-    if (daisarnica_action(&head, &x, &frame) != DAISARNICA_DONE) printf("action %u is refused\n", (unsigned)action);
+    if (daisarnica_action(&head, &x, &frame) != DAISARNICA_DONE) exit(1); /* a refused call costs something else */
     if (action == DAISARNICA_START_DELIVERED) take_start();
     if (action == DAISARNICA_VOTE_DELIVERED) take_votes(n);
     return cost;

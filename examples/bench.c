@@ -3,8 +3,9 @@
  *
  * One round is shown as a table, or, with the word sheet, its sheet is written as big-endian words, as the programs replay
  * and trace read it; of several there is a report. Ends with 1 if something is not as it must be: a sheet that is not
- * written or not accepted, an ending or a count of frames that the replay tells otherwise, a refused call that changed
- * something; or, with all premises kept, correct heads without one common clock, or farther apart than the bound. */
+ * written or not accepted, an ending or a count of frames that the replay tells otherwise, a look from which the next
+ * round's clock would not go on, a refused call that changed something; or, with all premises kept, correct heads without
+ * one common clock, or farther apart than the bound. */
 #include <stdio.h>
 #include <stdlib.h>
 #include <string.h>
@@ -203,6 +204,8 @@ static void print_head(const result *r, uint32_t h)
     print_state(&b.heads[h]);
 }
 
+static void print_changed(void) { printf("refused calls that changed something: %lu\n", (unsigned long)b.changed); }
+
 /* What a head must refuse, shown at the first one that has taken an action. */
 static void print_refusals(void)
 {
@@ -214,7 +217,6 @@ static void print_refusals(void)
     for (which = 0; h < b.set.n && which < BAD_INPUTS; which++)
         printf("head %lu is given %s: refused with cause %lu\n", (unsigned long)h, inputs[which],
                (unsigned long)refuse(&b, h, which));
-    printf("refused calls that changed something: %lu\n", (unsigned long)b.changed);
 }
 
 static void print_round(const result *r, uint32_t seed)
@@ -234,6 +236,7 @@ static void print_round(const result *r, uint32_t seed)
     if (accepted(r) && !r->judged) printf("all premises are kept\n");
     if (!accepted(r)) printf("the sheet is refused: %lu\n", (unsigned long)r->answer[DAISARNICA_REPLAY_CAUSE]);
     printf("heads of which the replay tells otherwise: %lu\n", (unsigned long)r->otherwise);
+    printf("looks from which the next round's clock would not go on: %lu\n", (unsigned long)r->stray);
 }
 
 /* The report of many rounds. */
@@ -356,6 +359,7 @@ static int play_many(uint32_t rounds, uint32_t seed)
         if (!is_right(&r)) {
             right = 0;
             print_round(&r, seed + i);
+            print_changed();
         }
     }
     print_report(&p);
@@ -389,5 +393,6 @@ int main(int argc, char **argv)
     if (writes) return write_words(sheet, 2 + b.count / 2) || !right;
     print_round(&r, seed);
     print_refusals();
+    print_changed();
     return right && !b.changed && !fflush(stdout) ? 0 : 1;
 }
