@@ -12,17 +12,15 @@ use lib.ListN.{getD}
 use borrow.Author.Tests.{eqb-true}
 use Rattle.protocol.specs.Base.{all, table}
 use Rattle.protocol.specs.Types.{HeadRecord, Setting, Entry, Judged, Kept, Broken, Unjudged}
-use Rattle.protocol.specs.Words.{settingOf, firstWordFits, entryOf, entryFits, settingAt, entryAt}
-use Rattle.protocol.specs.Record.{fresh, chosenStart, outcome, correction, correctedClock, markNumber}
-use Rattle.protocol.specs.Median.{orderedAt, median}
-use Rattle.protocol.specs.Step.{vote, adjust, startsHeld, mayLead, lead, voteReadings, mayAdjust, propose, delivered, effect, isClosed, mayClose, isTested, act, takenAs, takeAction, actionOf}
-use Rattle.protocol.specs.Causes.{sheetVerdict}
-use Rattle.protocol.specs.Run.{History, Run, stopped, ran, recordOf, frameSent, inputOf, stepEntry, andThen, runOf, runSheet}
-use Rattle.protocol.specs.Premises.{each, before, lastStart, premise1, premise2, startWithin, premise3, premise4, framesReached, votesReached, premise5, noneBetween, premise6, adjustsReached, premise7, premise8, firstBroken, judge}
-use Rattle.protocol.specs.Claim.{Ending, endingOf, apart}
-use Rattle.protocol.specs.Spelling.{entryWords, sheetOf}
+use Rattle.protocol.specs.Words.{settingAt, entryAt}
+use Rattle.protocol.specs.Record.{correctedClock, markNumber}
+use Rattle.protocol.specs.Run.{History, Run, stopped, ran, recordOf, runSheet}
+use Rattle.protocol.specs.Premises.{lastStart, judge}
+use Rattle.protocol.specs.Claim.{endingOf, apart, boundOnD}
+use Rattle.protocol.specs.Spelling.{sheetOf}
 use Rattle.protocol.specs.Recorder.{settingFrom, entriesIn}
 use Rattle.protocol.proofs.Tests.{absurd-bool, and-left, and-right, sameList, same-list, all-at}
+use Rattle.protocol.proofs.Computed.{sheets-compute}
 
 -- a sheet, the indices of the two looks, and by head what it has closed early at the end: 1 for the votes, 2 for the adjusts
 pub record Widest : Type 0 where
@@ -100,14 +98,13 @@ pub millionths : Setting → Entry → Entry → Run → ℕ
 millionths g d e (stopped c p) = 0
 millionths g d e (ran h) = 1000000 * apart (correctedClock (recordOf g h (d .head)) (d .reading)) (correctedClock (recordOf g h (e .head)) (e .reading))
 
-pub received : History → ℕ → Ending → ℕ
-received h q x = lastStart h (x .candidate) q
+-- the microseconds from the delivery of a head's chosen start to its look
+pub sinceReceived : Setting → History → Entry → ℕ
+sinceReceived g h e = e .time .0 - lastStart h (endingOf (recordOf g h (e .head)) .candidate) (e .head)
 
 pub bound : Setting → Entry → Entry → Run → ℕ
 bound g d e (stopped c p) = 0
-bound g d e (ran h) =
-    1000000 * (g .tightness + 2)
-    + g .drift * ((d .time .0 - received h (d .head) (endingOf (recordOf g h (d .head)))) + (e .time .0 - received h (e .head) (endingOf (recordOf g h (e .head)))))
+bound g d e (ran h) = boundOnD g (sinceReceived g h d) (sinceReceived g h e)
 
 pub distanceIn : Widest → ℕ
 distanceIn x = millionths (settingAt (x .words)) (entryAt (x .words) (x .fast)) (entryAt (x .words) (x .slow)) (runSheet (x .words))
@@ -134,11 +131,7 @@ abbrev passes : Widest → Bool
 passes x = isKept (judge (x .words)) && (eqb (distanceIn x) (boundIn x) && sameList (earlyMarks (settingAt (x .words)) (runSheet (x .words))) (x .early))
 
 all-pass : all passes widest ≡ true
-unfolding widest all-early none-early some-early earlyOf earlyMarks millionths received bound distanceIn boundIn entryWords sheetOf
-    settingOf firstWordFits entryOf entryFits fresh chosenStart outcome correction correctedClock orderedAt median
-    vote adjust startsHeld mayLead lead voteReadings mayAdjust propose delivered effect isClosed mayClose isTested act takenAs takeAction actionOf sheetVerdict
-    recordOf frameSent inputOf stepEntry andThen runOf runSheet endingOf
-    each before lastStart premise1 premise2 startWithin premise3 premise4 framesReached votesReached premise5 noneBetween premise6 adjustsReached premise7 premise8 firstBroken judge
+unfolding sheets-compute widest all-early none-early some-early earlyOf earlyMarks millionths sinceReceived bound distanceIn boundIn
 all-pass = refl
 
 -- each of the three sheets attains the bound, whichever way its phases close

@@ -26,6 +26,7 @@ pub mod Precision
 pub mod ThirdPoint
 pub mod ResultWords
 pub mod Readers
+pub mod Computed
 pub mod Attained
 pub mod Marked
 pub mod DraftRoom

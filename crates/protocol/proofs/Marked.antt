@@ -5,23 +5,16 @@ use mathlib.Core.List.{[]}
 use Prim.Native.Nat.{ℕ, _<_}
 use lib.ListN.{getD}
 use Rattle.protocol.specs.Base.{all}
-use Rattle.protocol.specs.Words.{settingOf, firstWordFits, entryOf, entryFits}
-use Rattle.protocol.specs.Record.{fresh, chosenStart, outcome, correction, correctedClock}
-use Rattle.protocol.specs.Median.{orderedAt, median}
-use Rattle.protocol.specs.Step.{vote, adjust, startsHeld, mayLead, lead, voteReadings, mayAdjust, propose, delivered, effect, isClosed, mayClose, isTested, act, takenAs, takeAction, actionOf}
 use Rattle.protocol.specs.Counter.{counterReading}
-use Rattle.protocol.specs.Causes.{sheetVerdict}
-use Rattle.protocol.specs.Run.{recordOf, frameSent, inputOf, stepEntry, andThen, runOf, runSheet}
 use Rattle.protocol.specs.Results.{outcomeWord, adjustmentWord, startWord, framesWord, wordsFrom, resultWords, replay}
-use Rattle.protocol.specs.Premises.{each, before, lastStart, premise1, premise2, startWithin, premise3, premise4, framesReached, votesReached, premise5, noneBetween, premise6, adjustsReached, premise7, premise8, firstBroken, judge}
 use Rattle.protocol.specs.Claim.{endingInWords}
 use Rattle.protocol.specs.Program.{decimal, signed, line, headLines, refusedLine, premisesLine, printSheet}
-use Rattle.protocol.specs.Spelling.{entryWords, sheetOf}
 use Rattle.protocol.specs.Recorder.{settingInWidth, entryInWidth, entryInRange, writeVerdict, writeSheet}
 use Rattle.protocol.specs.Draft.{phaseOrder, roundOrder, deliveries, entriesFrom, draftEntries, draftSheet, draftVerdict, draft}
 use Rattle.protocol.specs.Readers.{kindsFit, readVerdict, display, plan}
 use Rattle.protocol.specs.Marked.{Case, m1Numbers, m1, plainNumbers, lookAt, marked}
 use Rattle.protocol.proofs.Tests.{sameList, same-list, all-at}
+use Rattle.protocol.proofs.Computed.{sheets-compute}
 
 abbrev passes : Case → Bool
 passes c = sameList (c .found) (c .expected)
@@ -30,11 +23,8 @@ abbrev nothing : Case
 nothing = record { found = []; expected = [] }
 
 all-pass : all passes marked ≡ true
-unfolding settingOf firstWordFits entryOf entryFits fresh chosenStart outcome correction correctedClock orderedAt median
-    vote adjust startsHeld mayLead lead voteReadings mayAdjust propose delivered effect isClosed mayClose isTested act takenAs takeAction actionOf counterReading sheetVerdict
-    recordOf frameSent inputOf stepEntry andThen runOf runSheet outcomeWord adjustmentWord startWord framesWord wordsFrom resultWords replay
-    each before lastStart premise1 premise2 startWithin premise3 premise4 framesReached votesReached premise5 noneBetween premise6 adjustsReached premise7 premise8 firstBroken judge
-    endingInWords decimal signed line headLines refusedLine premisesLine printSheet entryWords sheetOf settingInWidth entryInWidth entryInRange writeVerdict writeSheet
+unfolding sheets-compute counterReading outcomeWord adjustmentWord startWord framesWord wordsFrom resultWords replay
+    endingInWords decimal signed line headLines refusedLine premisesLine printSheet settingInWidth entryInWidth entryInRange writeVerdict writeSheet
     phaseOrder roundOrder deliveries entriesFrom draftEntries draftSheet draftVerdict draft kindsFit readVerdict display plan m1Numbers m1 plainNumbers lookAt marked
 all-pass = refl
 

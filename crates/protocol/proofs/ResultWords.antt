@@ -16,7 +16,7 @@ use Rattle.protocol.specs.Record.{isReading, isNumber, readingOr0, numbe
 use Rattle.protocol.specs.Causes.{sheetVerdict}
 use Rattle.protocol.specs.Run.{History, recordOf, ran, runOf, afterVerdict, runSheet}
 use Rattle.protocol.specs.Results.{ifAdopted, outcomeWord, adjustmentWord, startWord, framesWord, wordsPerHead, headWords, wordsFrom, resultWords, Replay, fillAfter, replay}
-use Rattle.protocol.specs.Claim.{CorrectHead, Ending, endingOf, resultOf, endingInWords, shown, apart, sinceStart, Agreement, ThirdPointInWords}
+use Rattle.protocol.specs.Claim.{CorrectHead, Ending, endingOf, resultOf, endingInWords, shown, apart, sinceStart, boundOnD, Agreement, ThirdPointInWords}
 use Rattle.protocol.proofs.Tests.{cond-elim}
 use Rattle.protocol.proofs.Tables.{blocks, length-blocks, block-at}
 use Rattle.protocol.proofs.Effects.{votes, adjusts}
@@ -171,9 +171,9 @@ agreement-in-words ws out h e f a = record {
   same-adjustment = λ cp cq. ap (λ (x : Ending). x .adjustment) (says-so cp) ∙ a .same-adjustment cp cq ∙ ap (λ (x : Ending). x .adjustment) (sym (says-so cq));
   clocks-together = λ {p} {q} {d} {e} cp cq kp kq same.
       subst (λ (x : Ending). 1000000 * apart (shown d x) (shown e (endingInWords (replay ws out .buffer) q))
-      ≤ 1000000 * (g .tightness + 2) + g .drift * (sinceStart h p x d + sinceStart h q (endingInWords (replay ws out .buffer) q) e)) (sym (says-so cp))
+      ≤ boundOnD g (sinceStart h p x d) (sinceStart h q (endingInWords (replay ws out .buffer) q) e)) (sym (says-so cp))
       (subst (λ (y : Ending). 1000000 * apart (shown d (endingOf (recordOf g h p))) (shown e y)
-      ≤ 1000000 * (g .tightness + 2) + g .drift * (sinceStart h p (endingOf (recordOf g h p)) d + sinceStart h q y e)) (sym (says-so cq))
+      ≤ boundOnD g (sinceStart h p (endingOf (recordOf g h p)) d) (sinceStart h q y e)) (sym (says-so cq))
       (a .clocks-together cp cq kp kq same));
 }
   where

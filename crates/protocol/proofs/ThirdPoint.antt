@@ -15,7 +15,7 @@ use Rattle.protocol.specs.Words.{settingAt}
 use Rattle.protocol.specs.Record.{readingOr0, numberOr0, chosenStart, outcome, correction}
 use Rattle.protocol.specs.Run.{Event, History, recordOf, ran, runSheet}
 use Rattle.protocol.specs.Premises.{takes, receives, took, isSteady, lastStart, premises, firstBroken, judge}
-use Rattle.protocol.specs.Claim.{CorrectHead, endingOf, LookedAt, shown, apart, sinceStart, Agreement, ThirdPoint}
+use Rattle.protocol.specs.Claim.{CorrectHead, endingOf, LookedAt, shown, apart, sinceStart, boundOnD, Agreement, ThirdPoint}
 use Rattle.protocol.proofs.Tests.{absurd-bool, cases, and-left, and-right, or-first}
 use Rattle.protocol.proofs.Moments.{Earlier, now, later, earlier-trans, earlier-past, earlier-append, later-event}
 use Rattle.protocol.proofs.Effects.{votes, adjusts}
@@ -104,7 +104,7 @@ module _ {g : Setting} {h : History} (r : Round g h) where
 
   clocks-together : {p q : ℕ} {d e : Event} → CorrectHead g p → CorrectHead g q → LookedAt g h p d → LookedAt g h q e → d .entry .time .0 ≡ e .entry .time .0
       → 1000000 * apart (shown d (endingOf (recordOf g h p))) (shown e (endingOf (recordOf g h q)))
-      ≤ 1000000 * (g .tightness + 2) + g .drift * (sinceStart h p (endingOf (recordOf g h p)) d + sinceStart h q (endingOf (recordOf g h q)) e)
+      ≤ boundOnD g (sinceStart h p (endingOf (recordOf g h p)) d) (sinceStart h q (endingOf (recordOf g h q)) e)
   unfolding endingOf correction
   clocks-together {p} {q} {d} {e} cp cq kp kq same =
       subst (λ (x : OptReading). Within x (chosenStart (recordOf g h q)) (recordOf g h q .adjustment) (received p) (received q)) (sym (P .reading-is))
@@ -131,7 +131,7 @@ module _ {g : Setting} {h : History} (r : Round g h) where
       Within : OptReading → OptReading → Reading → ℕ → ℕ → Type 0
       Within x y z s t =
           1000000 * apart (pos (d .entry .reading .0) +ℤ subℕ (recordOf g h p .adjustment .0) (readingOr0 x)) (pos (e .entry .reading .0) +ℤ subℕ (z .0) (readingOr0 y))
-          ≤ 1000000 * (g .tightness + 2) + g .drift * ((d .entry .time .0 - s) + (e .entry .time .0 - t))
+          ≤ boundOnD g (d .entry .time .0 - s) (e .entry .time .0 - t)
 
       over : (k x y m n : ℕ) → m ≤ n + (k * x + k * y) → m ≤ n + k * (x + y)
       over k x y m n h = omega arith
@@ -143,7 +143,7 @@ module _ {g : Setting} {h : History} (r : Round g h) where
           (leb-true _ _ (steady-look cp kp))
           (subst (λ (z : ℕ). 1000000 * distance (e .entry .reading .0 + Q .start .event .entry .time .0) (b .0 + z) ≤ g .drift * (e .entry .time .0 - Q .start .event .entry .time .0) + 1000000)
           (sym same) (leb-true _ _ (steady-look cq kq))) (near-starts cp cq) in
-          subst (λ (x : ℕ). 1000000 * x ≤ 1000000 * (g .tightness + 2) + g .drift * ((d .entry .time .0 - P .start .event .entry .time .0) + (e .entry .time .0 - Q .start .event .entry .time .0)))
+          subst (λ (x : ℕ). 1000000 * x ≤ boundOnD g (d .entry .time .0 - P .start .event .entry .time .0) (e .entry .time .0 - Q .start .event .entry .time .0))
           (sym (apart-distance (d .entry .reading .0) (recordOf g h p .adjustment .0) (a .0) (e .entry .reading .0) (recordOf g h p .adjustment .0) (b .0)))
           (over (g .drift) _ _ _ _ close)
 

@@ -69,6 +69,10 @@ apart x y = natAbs (x -ℤ y)
 abbrev pub sinceStart : History → ℕ → Ending → Event → ℕ
 sinceStart h q x e = e .entry .time .0 - lastStart h (x .candidate) q
 
+-- the bound on D, in millionths of a microsecond, for two heads that received their chosen starts x and y microseconds ago
+abbrev pub boundOnD : Setting → ℕ → ℕ → ℕ
+boundOnD g x y = 1000000 * (g .tightness + 2) + g .drift * (x + y)
+
 -- every correct head ends with a clock, all with the same candidate, adjuster and adjustment, and any two corrected
 -- clocks in the same real microsecond are within the bound on D
 pub record Agreement (g : Setting) (h : History) (ending : ℕ → Ending) : Type 0 where
@@ -79,7 +83,7 @@ pub record Agreement (g : Setting) (h : History) (ending : ℕ → Ending) : Typ
   pub clocks-together : {p q : ℕ} {d e : Event} → CorrectHead g p → CorrectHead g q → LookedAt g h p d → LookedAt g h q e
       → d .entry .time .0 ≡ e .entry .time .0
       → 1000000 * apart (shown d (ending p)) (shown e (ending q))
-      ≤ 1000000 * (g .tightness + 2) + g .drift * (sinceStart h p (ending p) d + sinceStart h q (ending q) e)
+      ≤ boundOnD g (sinceStart h p (ending p) d) (sinceStart h q (ending q) e)
 
 -- of the records at the end of an accepted sheet's entries
 abbrev pub AgreementOf : List ℕ → Type 0

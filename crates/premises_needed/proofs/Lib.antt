@@ -1,0 +1,2 @@
+-- The proof that no premise can be left out.
+pub mod Needed
