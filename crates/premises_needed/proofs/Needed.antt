@@ -25,16 +25,16 @@ use Rattle.premises_needed.specs.Sheets.{sheets, sheetFor}
 -- A FAILING CLAUSE REFUTES THE CLAIM
 
 module _ (g : Setting) (h : History) where
-  correct-head : (q : ℕ) → isCorrectHead g h q ≡ true → CorrectHead g q
+  correct-head : (q : ℕ) → isCorrectHead g q ≡ true → CorrectHead g q
   correct-head q e = record { is-head = ltb-true q (g .n) (and-left (ltb q (g .n)) _ e); is-correct = and-right (ltb q (g .n)) _ e }
 
   -- two correct heads that differ do not have the same number
   no-difference : (p q : ℕ) (number : Ending → ℕ) → differ g h p q number ≡ true
       → (CorrectHead g p → CorrectHead g q → number (ending g h p) ≡ number (ending g h q)) → ⊥
   no-difference p q number e same =
-      let rest = and-right (isCorrectHead g h p) _ e in
-      eqb-false _ _ (not-true (and-right (isCorrectHead g h q) _ rest))
-      (same (correct-head p (and-left (isCorrectHead g h p) _ e)) (correct-head q (and-left (isCorrectHead g h q) _ rest)))
+      let rest = and-right (isCorrectHead g p) _ e in
+      eqb-false _ _ (not-true (and-right (isCorrectHead g q) _ rest))
+      (same (correct-head p (and-left (isCorrectHead g p) _ e)) (correct-head q (and-left (isCorrectHead g q) _ rest)))
 
   -- what stands first in the history up to an entry is looked at, if its head's adjust phase had closed
   looked-at : (k : ℕ) {e : Event} {s : History} → drop k h ≡ e ∷ s → isLook g h e s ≡ true → LookedAt g h (e .entry .head) e
@@ -43,7 +43,7 @@ module _ (g : Setting) (h : History) where
     earlier = s;
     in-history = sym (take-append-drop k h) ∙ ap (λ (x : History). take k h ++ x) there;
     at-head = refl;
-    closed = and-right (isCorrectHead g h (e .entry .head)) _ t;
+    closed = and-right (isCorrectHead g (e .entry .head)) _ t;
   }
 
   no-clocks-apart : (j k : ℕ) (s t : History) → drop j h ≡ s → drop k h ≡ t → areApart g h s t ≡ true → Agreement g h (ending g h) → ⊥
@@ -56,17 +56,17 @@ module _ (g : Setting) (h : History) where
       let far = and-right (isLook g h e t) _ rest in
       let same = eqb-true _ _ (and-left (eqb (d .entry .time .0) (e .entry .time .0)) _ far) in
       let beyond = ltb-true (boundOnD g (since g h d) (since g h e)) _ (and-right (eqb (d .entry .time .0) (e .entry .time .0)) _ far) in
-      let within = a .clocks-together (correct-head _ (and-left (isCorrectHead g h (d .entry .head)) _ look-d))
-      (correct-head _ (and-left (isCorrectHead g h (e .entry .head)) _ look-e)) (looked-at j there-j look-d) (looked-at k there-k look-e) same in
+      let within = a .clocks-together (correct-head _ (and-left (isCorrectHead g (d .entry .head)) _ look-d))
+      (correct-head _ (and-left (isCorrectHead g (e .entry .head)) _ look-e)) (looked-at j there-j look-d) (looked-at k there-k look-e) same in
       omega (arith, beyond, within)
 
   refuted : (x : Failure) → fails g h x ≡ true → ¬ Agreement g h (ending g h)
   unfolding fails
   refuted (without-clock q) e a =
-      eqb-false _ 2 (not-true (and-right (isCorrectHead g h q) _ e)) (a .has-clock (correct-head q (and-left (isCorrectHead g h q) _ e)))
+      eqb-false _ 2 (not-true (and-right (isCorrectHead g q) _ e)) (a .has-clock (correct-head q (and-left (isCorrectHead g q) _ e)))
   refuted (candidates-differ p q) e a = no-difference p q (λ x. x .candidate) e (λ cp cq. a .same-candidate cp cq)
   refuted (adjustments-differ p q) e a = no-difference p q (λ x. x .adjustment) e (λ cp cq. a .same-adjustment cp cq)
-  refuted (clocks-apart i j) e a = no-clocks-apart (length h - suc i) (length h - suc j) (upTo g h i) (upTo g h j) refl refl e a
+  refuted (clocks-apart i j) e a = no-clocks-apart (length h - suc i) (length h - suc j) (upTo h i) (upTo h j) refl refl e a
 
 -- THE EIGHT SHEETS
 

@@ -20,6 +20,13 @@ pub data Failure : Type 0 where
   adjustments-differ : ℕ → ℕ → Failure
   clocks-apart : ℕ → ℕ → Failure
 
+abbrev pub isCorrectHead : Setting → ℕ → Bool
+isCorrectHead g q = ltb q (g .n) && isCorrect g q
+
+-- the history up to entry i, which comes first in it
+abbrev pub upTo : History → ℕ → History
+upTo h i = drop (length h - suc i) h
+
 module _ (g : Setting) (h : History) where
   -- premise j, from 1 to 8, is kept; every premise is, but perhaps premise i
   abbrev pub keeps : ℕ → Bool
@@ -31,25 +38,19 @@ module _ (g : Setting) (h : History) where
   abbrev pub ending : ℕ → Ending
   ending q = endingOf (recordOf g h q)
 
-  abbrev pub isCorrectHead : ℕ → Bool
-  isCorrectHead q = ltb q (g .n) && isCorrect g q
-
   -- two correct heads end with different numbers
   abbrev pub differ : ℕ → ℕ → (Ending → ℕ) → Bool
-  differ p q number = isCorrectHead p && (isCorrectHead q && not (eqb (number (ending p)) (number (ending q))))
-
-  -- the history up to entry i, which comes first in it
-  abbrev pub upTo : ℕ → History
-  upTo i = drop (length h - suc i) h
+  differ p q number = isCorrectHead g p && (isCorrectHead g q && not (eqb (number (ending p)) (number (ending q))))
 
   -- an event, with the history before it, is a look at a correct head
   abbrev pub isLook : Event → History → Bool
-  isLook e s = isCorrectHead (e .entry .head) && recordOf g s (e .entry .head) .adjust .closed
+  isLook e s = isCorrectHead g (e .entry .head) && recordOf g s (e .entry .head) .adjust .closed
 
-  -- two looks in the same real microsecond show clocks that are farther apart than the bound on D
+  -- at a look, the microseconds since its head last received its chosen start
   abbrev pub since : Event → ℕ
   since e = sinceStart h (e .entry .head) (ending (e .entry .head)) e
 
+  -- two looks in the same real microsecond show clocks that are farther apart than the bound on D
   abbrev pub beyondBound : Event → Event → Bool
   beyondBound d e =
       eqb (d .entry .time .0) (e .entry .time .0)
@@ -62,10 +63,10 @@ module _ (g : Setting) (h : History) where
 
   -- the clause does fail there
   unfoldable pub fails : Failure → Bool
-  fails (without-clock q) = isCorrectHead q && not (eqb (ending q .outcome) 2)
+  fails (without-clock q) = isCorrectHead g q && not (eqb (ending q .outcome) 2)
   fails (candidates-differ p q) = differ p q (λ x. x .candidate)
   fails (adjustments-differ p q) = differ p q (λ x. x .adjustment)
-  fails (clocks-apart i j) = areApart (upTo i) (upTo j)
+  fails (clocks-apart i j) = areApart (upTo h i) (upTo h j)
 
 -- the third point with premise i left out of the eight; 0 leaves out none
 abbrev pub ThirdPointWithout : ℕ → Type 0
