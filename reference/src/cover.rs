@@ -398,7 +398,7 @@ impl Cover {
             }
         }
         if let Some(checked) = claim::check(&words) {
-            let checked = checked?;
+            let checked = checked.map_err(|failure| failure.to_string())?;
             self.claims += 1;
             self.pairs += checked.pairs as u64;
             let faulty = run.settings.n - checked.heads as u32;

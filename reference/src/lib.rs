@@ -17,6 +17,7 @@ pub mod generate;
 pub mod judge;
 pub mod medians;
 pub mod open;
+pub mod order;
 pub mod program;
 pub mod random;
 pub mod readers;
@@ -27,6 +28,7 @@ pub mod round;
 pub mod sheet;
 #[cfg(feature = "sheets")]
 pub mod sheets;
+pub mod shortest;
 pub mod step;
 pub mod trace;
 pub mod words;

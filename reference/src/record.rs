@@ -5,7 +5,7 @@ use crate::words::{counts_allowed, Reading, MAX_HEADS, TIME_LIMIT};
 /// What is kept "by each sender": "the last start reading, vote reading, and
 /// vote and adjust serials taken"; and, by document 02, No. 4, whom its latest
 /// vote and its latest adjust name. Each may be none.
-#[derive(Clone, Copy, Debug, PartialEq, Eq, Default)]
+#[derive(Clone, Copy, Debug, PartialEq, Eq, Hash, Default)]
 pub struct Kept {
     pub start_reading: Option<Reading>,
     pub vote_reading: Option<Reading>,
@@ -20,7 +20,7 @@ pub struct Kept {
 /// adjust serials taken; candidate; adjuster; adjustment; votes and adjusts
 /// sent; six marks (start sent, confirmed, vote turn, vote close, adjust turn,
 /// adjust close)." Document 02, No. 4, adds "a mark for each phase closed early".
-#[derive(Clone, Debug, PartialEq, Eq)]
+#[derive(Clone, Debug, PartialEq, Eq, Hash)]
 pub struct Record {
     pub n: u32,
     pub f: u32,

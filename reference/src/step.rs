@@ -21,7 +21,7 @@ pub struct Input {
 }
 
 /// "the frame to send, if any: a start, or a vote or adjust with its serial".
-#[derive(Clone, Copy, Debug, PartialEq, Eq)]
+#[derive(Clone, Copy, Debug, PartialEq, Eq, Hash)]
 pub enum Frame {
     Start,
     /// "A vote carries the candidate and h's own start reading of it, or the

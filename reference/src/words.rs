@@ -5,7 +5,7 @@
 pub struct RealTime(pub u32);
 
 /// Microseconds on a head's clock in use.
-#[derive(Clone, Copy, Debug, PartialEq, Eq, PartialOrd, Ord)]
+#[derive(Clone, Copy, Debug, PartialEq, Eq, Hash, PartialOrd, Ord)]
 pub struct Reading(pub u32);
 
 /// "At most 4,096 entries: 12,290 words."
