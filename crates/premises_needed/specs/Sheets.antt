@@ -1,4 +1,4 @@
--- Eight short run sheets, one for each premise: it breaks this premise alone, and the third point's claim fails on it. Entries stand
+-- Eight short run sheets, one for each premise: it breaks that premise alone, and the third point's claim fails on it. Entries stand
 -- in M1's order, "real time, reading, head, action, sender, serial". The second word is M1's: drift 100 ppm, tightness 10 µs.
 use mathlib.Core.List.{List, [], _∷_, _++_}
 use Prim.Native.Nat.{ℕ, _-_}
@@ -24,7 +24,7 @@ start-of-0 = 1000 ∷ 1000 ∷ 0 ∷ 1 ∷ 0 ∷ 0 ∷ 1100 ∷ 1100 ∷ 0 ∷ 2
 abbrev start-at-1 : List ℕ
 start-at-1 = 1103 ∷ 1153 ∷ 1 ∷ 2 ∷ 0 ∷ 0 ∷ []
 
--- head 0 takes its turns and closes both phases, and nothing reaches it
+-- head 0 confirms its start, takes its turns and closes both phases, and nothing reaches it
 abbrev alone : List ℕ
 alone =
     1200 ∷ 1200 ∷ 0 ∷ 3 ∷ 0 ∷ 0 ∷ 1300 ∷ 1300 ∷ 0 ∷ 4 ∷ 0 ∷ 0 ∷ 2000 ∷ 2000 ∷ 0 ∷ 6 ∷ 0 ∷ 0 ∷ 2100 ∷ 2100 ∷ 0 ∷ 7 ∷ 0 ∷ 0
@@ -38,7 +38,7 @@ led-by-0 =
 abbrev adjusted-by-0 : List ℕ
 adjusted-by-0 = 1600 ∷ 1600 ∷ 0 ∷ 7 ∷ 0 ∷ 0 ∷ 1700 ∷ 1750 ∷ 1 ∷ 8 ∷ 0 ∷ 0 ∷ 1800 ∷ 1800 ∷ 0 ∷ 8 ∷ 1 ∷ 0 ∷ []
 
--- both close their votes by entry, head 1's the later; both take their adjust turns, and close
+-- each closes its votes by entry; both take their adjust turns and close, and neither adjust reaches the other
 abbrev vote-close-of-0 : List ℕ
 vote-close-of-0 = 2000 ∷ 2000 ∷ 0 ∷ 6 ∷ 0 ∷ 0 ∷ []
 
@@ -62,14 +62,14 @@ vote-of-2 = 1520 ∷ 1920 ∷ 2 ∷ 5 ∷ 0 ∷ 0 ∷ 1620 ∷ 1620 ∷ 0 ∷ 5 
 
 -- HEADS 1 AND 2 ARE CORRECT, and head 0 is faulty. Their clocks are 50 and 90 µs ahead of head 0's
 
--- heads 1 and 0 send their starts; 1's reaches both correct heads, 0's reaches head 1. Then 0's reaches heads 2 and 0, and 1's head 0
+-- heads 1 and 0 send their starts; 1's reaches both correct heads, 0's reaches head 1. The other deliveries: 0's to heads 2 and 0, 1's to 0
 abbrev starts-of-1-and-0 : List ℕ
 starts-of-1-and-0 =
     1000 ∷ 1050 ∷ 1 ∷ 1 ∷ 0 ∷ 0 ∷ 1050 ∷ 1050 ∷ 0 ∷ 1 ∷ 0 ∷ 0 ∷ 1100 ∷ 1150 ∷ 1 ∷ 2 ∷ 1 ∷ 0 ∷ 1103 ∷ 1193 ∷ 2 ∷ 2 ∷ 1 ∷ 0
     ∷ 1200 ∷ 1250 ∷ 1 ∷ 2 ∷ 0 ∷ 0 ∷ []
 
-abbrev starts-at-0 : List ℕ
-starts-at-0 = 1202 ∷ 1292 ∷ 2 ∷ 2 ∷ 0 ∷ 0 ∷ 1204 ∷ 1204 ∷ 0 ∷ 2 ∷ 0 ∷ 0 ∷ 1206 ∷ 1206 ∷ 0 ∷ 2 ∷ 1 ∷ 0 ∷ []
+abbrev other-deliveries : List ℕ
+other-deliveries = 1202 ∷ 1292 ∷ 2 ∷ 2 ∷ 0 ∷ 0 ∷ 1204 ∷ 1204 ∷ 0 ∷ 2 ∷ 0 ∷ 0 ∷ 1206 ∷ 1206 ∷ 0 ∷ 2 ∷ 1 ∷ 0 ∷ []
 
 -- head 1 leads, head 2 adopts it, and each one's vote reaches the other
 abbrev led-by-1 : List ℕ
@@ -116,7 +116,7 @@ sheets =
     -- 5: the votes close before any head has started
     ∷ of 2 0 3 (vote-close-of-0 ++ vote-close-of-1 ++ adjusts-unheard) (without-clock 0)
     -- 6: a vote of higher rank reaches head 2 when head 1 has closed
-    ∷ of 3 1 6 (starts-of-1-and-0 ++ starts-at-0 ++ led-by-1 ++ late-vote-of-0 ++ adjusted-by-1 ++ adjust-close-of-2) (candidates-differ 1 2)
+    ∷ of 3 1 6 (starts-of-1-and-0 ++ other-deliveries ++ led-by-1 ++ late-vote-of-0 ++ adjusted-by-1 ++ adjust-close-of-2) (candidates-differ 1 2)
     -- 7: each of heads 0 and 1 is adjuster, with a median of its own, and neither adjust reaches the other
     ∷ of 3 1 3 (start-of-0 ++ start-at-1 ++ start-of-2 ++ led-by-0 ++ vote-of-2 ++ vote-close-of-1 ++ adjusts-unheard) (adjustments-differ 0 1)
     -- 8: an adjust of higher rank reaches head 2 when head 1 has closed
