@@ -64,8 +64,7 @@ pub enum Asked {
 pub struct Head {
     pub record: Record,
     /// The votes and the adjusts that it sent, by serial.
-    pub votes: Vec<Frame>,
-    pub adjusts: Vec<Frame>,
+    pub sent: [Vec<Frame>; 2],
     /// What has reached it, for a correct head.
     reached: Reached,
     /// How often it was looked at, up to twice, for a correct head, if looks are asked.
@@ -80,8 +79,7 @@ pub struct Head {
 #[derive(Clone, Default, PartialEq, Eq, Hash)]
 struct Reached {
     starts: u32,
-    votes: u32,
-    adjusts: u32,
+    frames: [u32; 2],
     /// Whether "was delivered a vote".
     some_vote: bool,
     /// Whether the first correct vote close, and adjust close, has come.
@@ -168,8 +166,7 @@ impl Order {
         for own in 0..n {
             state.heads[own as usize] = self.number(Head {
                 record: Record::fresh(n, f, own),
-                votes: Vec::new(),
-                adjusts: Vec::new(),
+                sent: [Vec::new(), Vec::new()],
                 reached: Reached::default(),
                 looks: 0,
                 median_of: (None, 0),
@@ -228,8 +225,8 @@ impl Order {
         match entry.action {
             2 if sender.record.start_sent => Some(Some(Frame::Start)),
             2 => None,
-            5 => sender.votes.get(serial).copied().map(Some),
-            8 => sender.adjusts.get(serial).copied().map(Some),
+            5 => sender.sent[0].get(serial).copied().map(Some),
+            8 => sender.sent[1].get(serial).copied().map(Some),
             _ => Some(None),
         }
     }
@@ -254,9 +251,12 @@ impl Order {
             2 if self.head(state, sender).record.confirmed => {
                 broken.add(3, 2, self.is_correct(head));
             }
-            6 if self.is_close(state, entry, 0) => self.add_at_vote_close(state, &mut broken),
-            9 if self.is_close(state, entry, 1) => self.add_at_adjust_close(state, &mut broken),
             _ => {}
+        }
+        for phase in PHASES {
+            if self.is_close(state, entry, phase) {
+                self.add_at_close(state, phase, &mut broken);
+            }
         }
         broken
     }
@@ -266,54 +266,46 @@ impl Order {
             .all(|head| self.head(state, head).reached.starts >> sender & 1 == 1)
     }
 
-    /// Premise 5 at the first correct vote close, premise 6 at a later one.
-    fn add_at_vote_close(&self, state: &State, broken: &mut Parts) {
-        if state.closes[0] != Close::None {
-            broken.add(6, 0, state.closes[0] == Close::FrameSince);
+    /// Premise 5 at the first correct vote close, premise 6 at a later one; premises 7 and 8
+    /// likewise of adjusts.
+    fn add_at_close(&self, state: &State, phase: usize, broken: &mut Parts) {
+        let (at_first, at_later) = [(5, 6), (7, 8)][phase];
+        if state.closes[phase] != Close::None {
+            broken.add(at_later, 0, state.closes[phase] == Close::FrameSince);
             return;
         }
         for head in self.correct() {
-            let h = self.head(state, head);
-            // "every correct head either took all of 1, 3 and 4 or was delivered a vote"
-            broken.add(5, 0, !h.record.vote_turn && !h.reached.some_vote);
-            // "each start a correct head sent by then reached, by then, all correct heads"
-            let reached_all = self.start_reached_all(state, head);
-            broken.add(5, 1, h.record.start_sent && !reached_all);
-            // "and each vote all other correct heads"
-            let reached_all = self.reached_others(state, head, h.votes.len(), |r| r.votes);
-            broken.add(5, 2, !reached_all);
+            broken.add(at_first, 0, !self.took_part(state, head, phase));
+            // "and each vote all other correct heads"; "each adjust sent by a correct head
+            // by then reached, by then, all other correct heads"
+            let last = parts(at_first) - 1;
+            broken.add(at_first, last, !self.reached_others(state, head, phase));
+            if phase == 0 && self.head(state, head).record.start_sent {
+                // "each start a correct head sent by then reached, by then, all correct heads"
+                broken.add(5, 1, !self.start_reached_all(state, head));
+            }
         }
     }
 
-    /// Premise 7 at the first correct adjust close, premise 8 at a later one.
-    fn add_at_adjust_close(&self, state: &State, broken: &mut Parts) {
-        if state.closes[1] != Close::None {
-            broken.add(8, 0, state.closes[1] == Close::FrameSince);
-            return;
-        }
-        for head in self.correct() {
-            let h = self.head(state, head);
-            // "every correct head took 7", or has closed its adjust phase early
-            broken.add(7, 0, !h.record.adjust_turn && !h.record.adjust_early);
-            // "each adjust sent by a correct head by then reached, by then, all other
-            // correct heads"
-            let reached_all = self.reached_others(state, head, h.adjusts.len(), |r| r.adjusts);
-            broken.add(7, 1, !reached_all);
+    /// "every correct head either took all of 1, 3 and 4 or was delivered a vote"; "every
+    /// correct head took 7", or has closed its adjust phase early.
+    fn took_part(&self, state: &State, head: usize, phase: usize) -> bool {
+        let Head {
+            record, reached, ..
+        } = self.head(state, head);
+        if phase == 0 {
+            record.vote_turn || reached.some_vote
+        } else {
+            record.adjust_turn || record.adjust_early
         }
     }
 
-    /// Whether the frames that a head sent have reached all other correct heads.
-    fn reached_others(
-        &self,
-        state: &State,
-        sender: usize,
-        sent: usize,
-        bits: fn(&Reached) -> u32,
-    ) -> bool {
+    /// Whether the frames of a phase that a head sent have reached all other correct heads.
+    fn reached_others(&self, state: &State, sender: usize, phase: usize) -> bool {
+        let sent = self.head(state, sender).sent[phase].len();
         let all_sent = ((1 << sent) - 1) << (sender * self.settings.n as usize);
-        self.correct()
-            .filter(|&head| head != sender)
-            .all(|head| bits(&self.head(state, head).reached) & all_sent == all_sent)
+        let mut others = self.correct().filter(|&head| head != sender);
+        others.all(|head| self.head(state, head).reached.frames[phase] & all_sent == all_sent)
     }
 
     /// What the closes have come to after an entry of a correct head.
@@ -406,8 +398,8 @@ impl Order {
         }
         head.record = without_unused(after, self.asked);
         match sent {
-            Some(Frame::Vote { .. }) => head.votes.extend(sent),
-            Some(Frame::Adjust { .. }) => head.adjusts.extend(sent),
+            Some(Frame::Vote { .. }) => head.sent[0].extend(sent),
+            Some(Frame::Adjust { .. }) => head.sent[1].extend(sent),
             Some(Frame::Start) | None => {}
         }
         Some(head)
@@ -474,22 +466,18 @@ impl Reached {
         match entry.action {
             2 => self.starts |= 1 << entry.sender,
             5 if !self.closed[0] => {
-                self.votes |= bit;
+                self.frames[0] |= bit;
                 self.some_vote = true;
             }
-            8 if !self.closed[1] => self.adjusts |= bit,
+            8 if !self.closed[1] => self.frames[1] |= bit,
             _ => {}
         }
     }
 
     fn close(&mut self, phase: usize) {
         self.closed[phase] = true;
-        if phase == 0 {
-            self.votes = 0;
-            self.some_vote = false;
-        } else {
-            self.adjusts = 0;
-        }
+        self.frames[phase] = 0;
+        self.some_vote &= phase != 0;
     }
 }
 

@@ -130,8 +130,9 @@ impl Search {
             for sender in heads.clone() {
                 let from = self.order.head(state, sender);
                 entries.push(entry(2, head, sender, 0));
-                entries.extend((0..from.votes.len()).map(|s| entry(5, head, sender, s)));
-                entries.extend((0..from.adjusts.len()).map(|s| entry(8, head, sender, s)));
+                for (action, sent) in [5, 8].into_iter().zip(&from.sent) {
+                    entries.extend((0..sent.len()).map(|s| entry(action, head, sender, s)));
+                }
             }
         }
         entries
