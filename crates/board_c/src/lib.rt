@@ -1,5 +1,7 @@
 // What a board written in C calls; include/daisarnica.h declares it. A head's record is its row of numbers in memory that the
 // caller lends, an action and a frame are arrays of numbers, and each cause is its number, 0 for none.
+#![tactic(auto)]
+
 mod numbers;
 
 ghost use Rattle.std.specs.Prelude.{◌≡◌, ◌∷◌, []};

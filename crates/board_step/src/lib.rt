@@ -1,4 +1,6 @@
 // A board keeps one head's record and changes it in place. `board_c` has the same for C.
+#![tactic(auto)]
+
 ghost use Rattle.std.specs.Prelude.{◌≡◌};
 ghost use Rattle.protocol.specs.Step.{step};
 ghost use Rattle.board_step.specs.Board.{answer_of};
@@ -7,7 +9,7 @@ use head_by_value::step;
 use protocol::{Frame, HeadRecord, Input, Stepped, Verdict};
 
 // What a board answers: whether the action is taken, and the frame to send.
-#[derive(Drop)]
+#[derive(Clone, Copy)]
 pub struct Answer {
     pub verdict: Verdict,
     pub frame: Frame,

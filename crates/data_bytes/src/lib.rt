@@ -1,4 +1,6 @@
 // A sheet that is given as bytes: causes 1 and 2 of them, and their big-endian words.
+#![tactic(auto)]
+
 ghost use Rattle.std.specs.Prelude.{◌≡◌, ◌/◌, ◌≤◌, ◌<◌, length, take, get_or};
 ghost use Rattle.protocol.specs.Program.{big_endian, bytes_verdict};
 

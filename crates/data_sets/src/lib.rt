@@ -1,4 +1,6 @@
 // Sets of heads, as document 01's first word has one: "one bit per correct head, bit 0 for head 0".
+#![tactic(auto)]
+
 ghost use Rattle.std.specs.Prelude.{◌≡◌};
 ghost use Rattle.data_sets.specs.Sets.{with_head, has_all};
 

@@ -1,5 +1,7 @@
 // What a value of an enum stands for as a number. A reading or a number that may be missing: whether it is there, and its value,
 // 0 where there is none; a cause: its number in document 01's table, which document 02 adds to. And the difference of two numbers.
+#![tactic(auto)]
+
 ghost use Rattle.std.specs.Prelude.{◌≡◌};
 ghost use Rattle.std.proofs.Math.IntN.{sub_ℕ};
 ghost use Rattle.protocol.specs.Causes.{cause_number};

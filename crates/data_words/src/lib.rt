@@ -1,6 +1,8 @@
 // The words of a run sheet, taken apart and tested: document 01, "Words of a run sheet".
 // Bits HIGH–LOW of a word are the word shifted right by LOW, modulo 2 to the number of those bits.
 // The parts of a test are joined by `&` and `|`: each part is total, and costs less than a branch.
+#![tactic(auto)]
+
 ghost use Rattle.std.specs.Prelude.{◌≡◌, ◌^◌, ltb};
 ghost use Rattle.protocol.specs.Words.{kind_of, is_time, setting_of, is_correct, heads_fit, first_fields_fit, first_word_fits, second_word_fits};
 ghost use Rattle.protocol.specs.Words.{entry_of, has_serial, has_sender, zero_where_unused};

@@ -1,4 +1,6 @@
 // One head of a bench: its step, the reading of its counter, and how a round ends for it.
+#![tactic(auto)]
+
 mod counter;
 mod ending;
 

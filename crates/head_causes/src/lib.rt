@@ -1,4 +1,6 @@
 // Causes 10, 6, 8 and 9 of an action at one head, by its row.
+#![tactic(auto)]
+
 ghost use Rattle.std.specs.Prelude.{◌≡◌, ◌&&◌, ◌||◌, eqb};
 ghost use Rattle.protocol.specs.Words.{has_serial};
 ghost use Rattle.protocol.specs.Step.{closed_by};

@@ -1,4 +1,6 @@
 // A phase closes when all have spoken. Phase 0 is the votes', 1 the adjusts'.
+#![tactic(auto)]
+
 ghost use Rattle.std.specs.Prelude.{◌≡◌, true, ◌+◌, ◌≤◌, ◌<◌, min, eqb, get_or};
 ghost use Rattle.protocol.specs.Base.{all_below};
 ghost use Rattle.protocol.specs.Step.{close_early};

@@ -1,4 +1,6 @@
 // What a head sends of itself, and what that leaves in its row.
+#![tactic(auto)]
+
 ghost use Rattle.std.specs.Prelude.{◌≡◌, ◌<◌, not, ◌&&◌};
 ghost use Rattle.protocol.specs.Record.{reading};
 ghost use Rattle.protocol.specs.Step.{drop_others, vote, adjust, may_lead, lead, may_adjust, propose, has_mark};

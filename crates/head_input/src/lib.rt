@@ -1,4 +1,6 @@
 // The numbers that a caller gives for one head: whether they fit.
+#![tactic(auto)]
+
 ghost use Rattle.std.specs.Prelude.{◌≡◌, not, ◌&&◌, ◌||◌, eqb};
 ghost use Rattle.protocol.specs.Words.{has_serial, has_sender, zero_where_unused};
 ghost use Rattle.protocol.specs.Step.{input_fits};

@@ -1,4 +1,6 @@
 // How many readings a head's row holds, and the median of its vote readings by counting ranks.
+#![tactic(auto)]
+
 ghost use Rattle.std.specs.Prelude.{◌≡◌, cond, ◌-◌, ◌≤◌, ◌<◌, eqb, length};
 ghost use Rattle.protocol.specs.declared.HeadRecord.{HeadRecord};
 ghost use Rattle.protocol.specs.Median.{ordered_at, median};

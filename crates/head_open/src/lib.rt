@@ -1,4 +1,6 @@
 // A head's marks in one number, as its row has them, and when they close an action; when an action is spent.
+#![tactic(auto)]
+
 ghost use Rattle.std.specs.Prelude.{◌≡◌, ◌+◌, ◌%◌, ◌^◌, ◌<◌, not, ◌&&◌, if◌then◌else◌};
 ghost use Rattle.protocol.specs.Step.{has_mark, closed_by, is_spent};
 

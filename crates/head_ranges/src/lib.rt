@@ -1,4 +1,6 @@
 // Whether a row of numbers holds a record in its ranges.
+#![tactic(auto)]
+
 ghost use Rattle.std.specs.Prelude.{◌≡◌, cond, ◌&&◌, ◌||◌, ◌+◌, ◌%◌, ◌≤◌, ◌<◌, ltb, eqb};
 ghost use Rattle.protocol.specs.Base.{◌⇒◌};
 ghost use Rattle.protocol.specs.Words.{is_time, heads_fit};

@@ -1,5 +1,7 @@
 // A head's record by value and its row: the row of a record, the record that a row in its ranges holds, and a frame from its
 // numbers.
+#![tactic(auto)]
+
 ghost use Rattle.std.specs.Prelude.{◌≡◌, map, ◌%◌, ◌<◌, ◌≤◌};
 ghost use Rattle.protocol.specs.Base.{table};
 ghost use Rattle.protocol.specs.Record.{mark_number, marks_number};

@@ -1,4 +1,6 @@
 // How a round ended for a head, read off its row.
+#![tactic(auto)]
+
 ghost use Rattle.head_result.specs.Result.{IsResult};
 
 use head_open::has_mark;

@@ -1,4 +1,6 @@
 // A head's row of numbers before its first action, and single numbers of it.
+#![tactic(auto)]
+
 ghost use Rattle.std.specs.Prelude.{◌≡◌, cond, ◌%◌};
 ghost use Rattle.protocol.specs.declared.Frame.TheVariants.{NoFrame};
 ghost use Rattle.protocol.specs.Record.{fresh};

@@ -1,4 +1,6 @@
 // One head's step, in place on its row: what an accepted action does, for a board and for the run of a sheet.
+#![tactic(auto)]
+
 mod actions;
 
 ghost use Rattle.std.specs.Prelude.{◌≡◌, ◌+◌, ◌%◌, ◌^◌, if◌then◌else◌};

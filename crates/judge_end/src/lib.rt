@@ -1,4 +1,6 @@
 // At the end of a run: premises 1 and 4, and the first broken premise.
+#![tactic(auto)]
+
 ghost use Rattle.std.specs.Prelude.{◌≡◌, cond, ◌&&◌, ◌||◌, List, [], ◌∷◌, ℕ, ◌≤◌};
 ghost use Rattle.protocol.specs.Base.{count_below};
 ghost use Rattle.protocol.specs.Words.{is_correct, setting_at};

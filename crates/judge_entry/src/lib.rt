@@ -1,4 +1,6 @@
 // What the premises say at an accepted entry, on the heads' rows before it.
+#![tactic(auto)]
+
 ghost use Rattle.std.specs.Prelude.{◌≡◌, ◌&&◌, List, ◌∷◌, ℕ, ◌<◌, set};
 ghost use Rattle.protocol.specs.declared.Verdict.TheVariants.{Accepted};
 ghost use Rattle.protocol.specs.Words.{setting_at, entry_at};

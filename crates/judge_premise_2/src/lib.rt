@@ -1,5 +1,7 @@
 // Premise 2 of every two entries of a head, by two differences that each entry has by itself: of e after d the premise says
 // that neither difference of e is more than 1,000,000 above that of d. So the least of each is all to be kept.
+#![tactic(auto)]
+
 ghost use Rattle.std.specs.Prelude.{◌≡◌};
 ghost use Rattle.judge_premise_2.specs.Drift.{gain_of, loss_of, lesser_of, stays_steady};
 

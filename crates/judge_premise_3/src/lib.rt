@@ -1,4 +1,6 @@
 // Premise 3: at each entry that delivers a start, and at the one that confirms it.
+#![tactic(auto)]
+
 ghost use Rattle.std.specs.Prelude.{◌≡◌, ℕ, ◌+◌, ◌*◌, ◌%◌, ◌^◌, ◌<◌, ◌≤◌, min, max, ◌&&◌, List, ◌∷◌, if◌then◌else◌, slice_index};
 ghost use Rattle.protocol.specs.declared.Verdict.TheVariants.{Accepted};
 ghost use Rattle.protocol.specs.Words.{is_correct, setting_at, entry_at};

@@ -1,4 +1,6 @@
 // Premises 5 and 7 at the first correct close of a phase, 6 and 8 at the later ones. Phase 0 is the votes', 1 the adjusts'.
+#![tactic(auto)]
+
 ghost use Rattle.std.specs.Prelude.{◌≡◌, true, false, List, ◌∷◌, ℕ, ◌≤◌, ◌<◌, min, set};
 ghost use Rattle.protocol.specs.declared.Verdict.TheVariants.{Accepted};
 ghost use Rattle.protocol.specs.Base.{◌⇒◌, any, all_below};

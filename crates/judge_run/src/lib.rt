@@ -1,4 +1,6 @@
 // One pass over a sheet's entries: the run of the heads, and what the premises say of it.
+#![tactic(auto)]
+
 ghost use Rattle.std.specs.Prelude.{◌≡◌, true, [], ◌+◌, ◌*◌, ◌≤◌, length, get_or};
 ghost use Rattle.protocol.specs.Words.{setting_at, first_word_fits};
 ghost use Rattle.protocol.specs.Run.{run_of, run_first};

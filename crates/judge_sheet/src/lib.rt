@@ -1,5 +1,7 @@
 // The replay of a run sheet and the judge of the eight premises, by one pass over its entries; and what holds of a sheet that
 // keeps them all.
+#![tactic(auto)]
+
 ghost use Rattle.std.specs.Prelude.{◌≡◌, ◌≤◌};
 ghost use Rattle.protocol.specs.Results.{replay};
 ghost use Rattle.protocol.specs.Premises.{judge};

@@ -1,4 +1,6 @@
 // The lines that the replay program prints, into a lent buffer: document 01, "The bench sheet, and its neighbours".
+#![tactic(auto)]
+
 ghost use Rattle.std.specs.Prelude.{◌≡◌, [], ◌∷◌, ◌++◌};
 ghost use Rattle.protocol.specs.Program.{decimal, line, head_lines, premises_line, refused_line, broken_line};
 ghost use Rattle.print_lines.specs.Lines.{head_line_of, result_lines};

@@ -1,4 +1,6 @@
 // What the replay program prints, into a lent buffer: document 01, "The bench sheet, and its neighbours".
+#![tactic(auto)]
+
 ghost use Rattle.std.specs.Prelude.{◌≡◌, ◌≤◌, length};
 ghost use Rattle.protocol.specs.Premises.{premise_number};
 ghost use Rattle.protocol.specs.Program.{print_sheet, printed};

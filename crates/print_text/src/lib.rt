@@ -1,5 +1,7 @@
 // Texts, byte by byte, into a lent buffer from a position on: document 01, "The bench sheet, and its neighbours".
 // A byte past the buffer's end is dropped, and the position that comes back counts it all the same.
+#![tactic(auto)]
+
 ghost use Rattle.std.specs.Prelude.{◌≡◌, [], ◌∷◌};
 ghost use Rattle.std.proofs.Math.IntN.{sub_ℕ};
 ghost use Rattle.protocol.specs.Program.{decimal, signed};

@@ -1,5 +1,6 @@
 // The types of the protocol: a head's record, what a head is asked and answers, a run sheet's entries, and the causes.
 // The definitions of specs/ speak about these types themselves, so a contract equates a function's result with a definition.
+#![tactic(auto)]
 
 pub mod at;
 pub mod mark;
@@ -8,22 +9,22 @@ pub mod mark;
 pub const TIME_LIMIT: u32 = 268435456;
 
 // Real time, in microseconds. A type of its own: real time never stands in for a reading.
-#[derive(Drop)]
+#[derive(Clone, Copy)]
 pub struct RealTime(pub u32);
 
 // What a head's clock shows, in microseconds.
-#[derive(Drop)]
+#[derive(Clone, Copy)]
 pub struct Reading(pub u32);
 
 // A reading, or none. 0 is a reading.
-#[derive(Drop)]
+#[derive(Clone, Copy)]
 pub enum OptReading {
     NoReading,
     SomeReading(Reading),
 }
 
 // A head number or a serial, or none.
-#[derive(Drop)]
+#[derive(Clone, Copy)]
 pub enum OptNumber {
     NoNumber,
     SomeNumber(u8),
@@ -31,7 +32,7 @@ pub enum OptNumber {
 
 // What a record keeps by sender: its last start reading, its vote reading, the vote and adjust serials last taken from it,
 // and whom its latest vote and its latest adjust name.
-#[derive(Drop)]
+#[derive(Clone, Copy)]
 pub struct Sender {
     pub start: OptReading,
     pub vote: OptReading,
@@ -43,7 +44,7 @@ pub struct Sender {
 
 // One phase of a round at one head. For votes the choice is the candidate, for adjusts the adjuster;
 // sent counts the head's own votes or adjusts, which are the serials of those frames; early marks a phase closed early.
-#[derive(Drop)]
+#[derive(Clone, Copy)]
 pub struct Phase {
     pub turn: bool,
     pub closed: bool,
@@ -53,7 +54,7 @@ pub struct Phase {
 }
 
 // A head's record. own is its number, last its last reading, started the mark "start sent".
-#[derive(Drop)]
+#[derive(Clone, Copy)]
 pub struct HeadRecord {
     pub n: u8,
     pub f: u8,
@@ -74,7 +75,7 @@ pub const ROW_LENGTH: usize = 112;
 pub type Row = [u32; ROW_LENGTH];
 
 // The ten actions, in the order of their numbers. A delivered vote or adjust has its sender, its serial, and what it carries.
-#[derive(Drop)]
+#[derive(Clone, Copy)]
 pub enum Action {
     Look,
     StartSent,
@@ -89,7 +90,7 @@ pub enum Action {
 }
 
 // The frame to send, if any. A vote or adjust has its serial and what it carries.
-#[derive(Drop)]
+#[derive(Clone, Copy)]
 pub enum Frame {
     NoFrame,
     Start,
@@ -99,7 +100,7 @@ pub enum Frame {
 
 // A frame in numbers, as a head's row has them. kind is the action that delivers it, 0 for no frame; carried is a vote's
 // reading, one more than itself, 0 for the mark "none", or an adjust's adjustment.
-#[derive(Drop)]
+#[derive(Clone, Copy)]
 pub struct Sent {
     pub kind: u32,
     pub serial: u32,
@@ -108,7 +109,7 @@ pub struct Sent {
 }
 
 // The causes to turn back a sheet, an action or a counter, in the order of their numbers, 1 to 11; then those of document 02.
-#[derive(Drop)]
+#[derive(Clone, Copy)]
 pub enum Cause {
     TooManyWords,
     BadLength,
@@ -126,14 +127,14 @@ pub enum Cause {
 }
 
 // Whether an action is taken.
-#[derive(Drop)]
+#[derive(Clone, Copy)]
 pub enum Verdict {
     Accepted,
     Refused(Cause),
 }
 
 // An action's answer: the record after it and the frame to send. A refusal has the record as it was, and no frame.
-#[derive(Drop)]
+#[derive(Clone, Copy)]
 pub struct Stepped {
     pub verdict: Verdict,
     pub after: HeadRecord,
@@ -142,7 +143,7 @@ pub struct Stepped {
 
 // The numbers that a caller gives for one head, none of them tested yet. choice and carried are what the frame
 // carries: candidate and start reading, or adjuster and adjustment; none is the mark "none" in place of the reading.
-#[derive(Drop)]
+#[derive(Clone, Copy)]
 pub struct Input {
     pub action: u32,
     pub reading: u32,
@@ -154,7 +155,7 @@ pub struct Input {
 }
 
 // What a run sheet's first two words say. correct has one bit per correct head.
-#[derive(Drop)]
+#[derive(Clone, Copy)]
 pub struct Setting {
     pub n: u8,
     pub f: u8,
@@ -164,7 +165,7 @@ pub struct Setting {
 }
 
 // One entry of a run sheet.
-#[derive(Drop)]
+#[derive(Clone, Copy)]
 pub struct Entry {
     pub time: RealTime,
     pub reading: Reading,
@@ -175,14 +176,14 @@ pub struct Entry {
 }
 
 // A replay's answer. A refusal has the cause and the place.
-#[derive(Drop)]
+#[derive(Clone, Copy)]
 pub enum Replayed {
     Filled,
     TurnedBack(Cause, usize),
 }
 
 // The judge's answer: all premises kept, the first one broken, or a refusal.
-#[derive(Drop)]
+#[derive(Clone, Copy)]
 pub enum Judged {
     Kept,
     Broken(u8),
@@ -190,14 +191,14 @@ pub enum Judged {
 }
 
 // A replay's answer and the judge's, of the same sheet.
-#[derive(Drop)]
+#[derive(Clone, Copy)]
 pub struct Report {
     pub replayed: Replayed,
     pub judged: Judged,
 }
 
 // The reading that a board's counter gives.
-#[derive(Drop)]
+#[derive(Clone, Copy)]
 pub enum Counted {
     Counts(Reading),
     OutOfRange(Cause),

@@ -1,5 +1,7 @@
 // What a program written in C calls to write or draft a sheet, to replay and judge one, and to read its result words;
 // include/daisarnica_sheet.h declares it.
+#![tactic(auto)]
+
 ghost use Rattle.std.specs.Prelude.{◌≡◌, ◌∷◌, ◌^◌, ◌<◌};
 ghost use Rattle.protocol.specs.Causes.{verdict_number};
 ghost use Rattle.protocol.specs.Premises.{judge, judged_numbers};

@@ -1,4 +1,6 @@
 // The carriage display: what result words say of one head, words of kinds other than 6 to 8 passed over: document 02, No. 7.
+#![tactic(auto)]
+
 ghost use Rattle.std.specs.Prelude.{◌≡◌, cond, eqb, pos};
 ghost use Rattle.std.proofs.Math.IntN.{sub_ℕ};
 ghost use Rattle.protocol.specs.Readers.{shown_in, is_head_of, first_failed, is_shown, display, ShownRight};
@@ -9,7 +11,7 @@ use data_words::kind_of;
 use protocol::{Cause, TIME_LIMIT, Verdict};
 
 // The words of kinds 6 to 8: how many there are, whether their kinds are in their places, and those of the head asked for.
-#[derive(Drop)]
+#[derive(Clone, Copy)]
 struct Kept {
     count: usize,
     kinds_fit: bool,

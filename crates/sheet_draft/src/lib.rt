@@ -1,4 +1,6 @@
 // A plain round's run sheet drafted into a lent buffer: document 02, No. 3.
+#![tactic(auto)]
+
 ghost use Rattle.std.specs.Prelude.{◌≡◌, true, ◌+◌, ◌-◌, ◌*◌, ◌^◌, ◌≤◌, ◌<◌, length};
 ghost use Rattle.protocol.specs.Words.{has_sender};
 ghost use Rattle.protocol.specs.Spelling.{entry_words};
@@ -14,7 +16,7 @@ use sheet_numbers::EntryNumbers;
 use sheet_spelling::{write_entry, write_setting};
 
 // Where the next entry's words go, and the real time of the next slot.
-#[derive(Drop)]
+#[derive(Clone, Copy)]
 struct Position {
     place: usize,
     time: u32,

@@ -1,4 +1,6 @@
 // One entry of a sheet: the verdict on it, and what an accepted one does to its head's row.
+#![tactic(auto)]
+
 ghost use Rattle.std.specs.Prelude.{◌≡◌, true, List, ◌∷◌, ℕ, ◌-◌};
 ghost use Rattle.protocol.specs.declared.Verdict.TheVariants.{Accepted};
 ghost use Rattle.protocol.specs.Words.{setting_at, entry_at, entry_fits_at};

@@ -1,4 +1,6 @@
 // The numbers that a recorder gives for a run sheet, tested before a word of it is written: document 02, No. 1.
+#![tactic(auto)]
+
 ghost use Rattle.std.specs.Prelude.{◌≡◌, ◌+◌, ◌*◌, ◌≤◌, ◌<◌, length};
 ghost use Rattle.protocol.specs.Base.{all};
 ghost use Rattle.protocol.specs.Recorder.{setting_from, numbers_per_entry, entry_in, entries_in, most_numbers};
@@ -14,7 +16,7 @@ pub const NUMBERS_PER_ENTRY: usize = 6;
 const MOST_NUMBERS: usize = 24576;
 
 // An entry's six numbers, as they are given.
-#[derive(Drop)]
+#[derive(Clone, Copy)]
 pub struct EntryNumbers {
     pub time: u32,
     pub reading: u32,
@@ -25,7 +27,7 @@ pub struct EntryNumbers {
 }
 
 // Whether each entry passes the tests of cause 12 and of cause 6.
-#[derive(Drop)]
+#[derive(Clone, Copy)]
 struct Tested {
     in_width: bool,
     in_range: bool,

@@ -1,5 +1,7 @@
 // Cause 9 of an entry: whether its action is open. A table is asked for the action and its head's marks; tests on the sender stay
 // outside it.
+#![tactic(auto)]
+
 ghost use Rattle.std.specs.Prelude.{◌≡◌, List, ℕ, ◌<◌};
 ghost use Rattle.protocol.specs.Words.{setting_at, entry_at};
 ghost use Rattle.protocol.specs.Run.{History};

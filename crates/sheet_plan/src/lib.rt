@@ -1,4 +1,6 @@
 // The planner's reader: what result words say of one head, and the frames that it broadcast: document 02, No. 7.
+#![tactic(auto)]
+
 ghost use Rattle.std.specs.Prelude.{◌≡◌, ◌++◌};
 ghost use Rattle.protocol.specs.Readers.{shown_in, counts_in, kinds_fit, plan, PlannedRight};
 

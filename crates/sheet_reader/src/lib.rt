@@ -1,18 +1,20 @@
 // Document 01: "The reader carries the lent sheet with it and moves on by one entry".
 // The work is done by two functions on the lent words and a number. Those over the struct hand its fields on to them,
 // and callers that hold plain words use `read_at`.
+#![tactic(auto)]
+
 ghost use Rattle.std.specs.Prelude.{◌≡◌};
 ghost use Rattle.sheet_reader.specs.Sheet.{words_at, index_after};
 
 // The lent sheet, and the number of the next entry, whose first word stands at 2 + 3 × next.
-#[derive(Drop)]
+#[derive(Clone, Copy)]
 pub struct Reader<'a> {
     pub sheet: &'a [u32],
     pub next: usize,
 }
 
 // An entry's three words, or that no whole entry is left.
-#[derive(Drop)]
+#[derive(Clone, Copy)]
 pub enum Read {
     Words(u32, u32, u32),
     End,

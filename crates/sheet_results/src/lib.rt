@@ -1,5 +1,7 @@
 // The heads' result words, written from their rows into a lent buffer and read back: document 01, "Result words", and document 02,
 // No. 7, "Frames told exactly".
+#![tactic(auto)]
+
 ghost use Rattle.std.specs.Prelude.{◌≡◌, ◌+◌, ◌*◌, ◌%◌, ◌^◌, ◌≤◌, ◌<◌, length};
 ghost use Rattle.protocol.specs.Claim.{result_of};
 ghost use Rattle.protocol.specs.Results.{words_per_head};
@@ -21,7 +23,7 @@ const KIND_8: u32 = 2147483648;
 const KIND_9: u32 = 2415919104;
 
 // A head's result words: of kind 6, 7, 8 and 9.
-#[derive(Drop)]
+#[derive(Clone, Copy)]
 pub struct HeadWords {
     pub outcome: u32,
     pub adjustment: u32,

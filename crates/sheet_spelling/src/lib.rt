@@ -1,4 +1,6 @@
 // The words of a setting and of an entry, written into a lent buffer: document 01, "Words of a run sheet".
+#![tactic(auto)]
+
 ghost use Rattle.std.specs.Prelude.{◌≡◌, true, [], ◌∷◌, ◌+◌, ◌≤◌, length};
 ghost use Rattle.protocol.specs.Spelling.{entry_words};
 ghost use Rattle.protocol.specs.Recorder.{setting_from, setting_in_width, entry_in_width};
@@ -19,7 +21,7 @@ const KIND_4: u32 = 1073741824;
 const KIND_5: u32 = 1342177280;
 
 // An entry's three words: of kind 3, 4 and 5.
-#[derive(Drop)]
+#[derive(Clone, Copy)]
 struct EntryWords {
     time: u32,
     reading: u32,

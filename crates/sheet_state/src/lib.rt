@@ -1,5 +1,7 @@
 // What a run keeps: a row for each head, fresh at first; and at which index an array has a head, or a vote or adjust. Arrays by
 // frame have 512 numbers, votes at head × 16 + serial, adjusts 256 further.
+#![tactic(auto)]
+
 ghost use Rattle.std.specs.Prelude.{◌≡◌, [], ◌<◌, ◌%◌};
 ghost use Rattle.sheet_state.specs.Arrays.{head_rows};
 ghost use Rattle.sheet_state.specs.Indices.{frame_index};

@@ -1,4 +1,6 @@
 // A sheet's words: causes 1 to 4 of the whole sheet, its setting and its entries, and cause 6 of an entry.
+#![tactic(auto)]
+
 ghost use Rattle.std.specs.Prelude.{◌≡◌, ◌+◌, ◌*◌, ◌≤◌, ◌<◌, length};
 ghost use Rattle.protocol.specs.Causes.{sheet_verdict};
 ghost use Rattle.protocol.specs.Words.{setting_at, entry_count, entry_at, entry_fits, entry_fits_at};
@@ -9,7 +11,7 @@ use data_words::{
 use protocol::{Cause, Entry, Setting, Verdict};
 
 // An entry, and whether its words fit (else cause 6).
-#[derive(Drop)]
+#[derive(Clone, Copy)]
 pub struct EntryRead {
     pub entry: Entry,
     pub fits: bool,

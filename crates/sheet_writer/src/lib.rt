@@ -1,4 +1,6 @@
 // A run sheet written from a recorder's numbers into a lent buffer: document 02, No. 1.
+#![tactic(auto)]
+
 ghost use Rattle.std.specs.Prelude.{◌≡◌, length};
 ghost use Rattle.protocol.specs.Recorder.{setting_from, count_in, write_sheet, Recorded};
 ghost use Rattle.sheet_writer.specs.Buffer.{AreWritable, entries_behind};

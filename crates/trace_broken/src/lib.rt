@@ -1,4 +1,6 @@
 // Where a premise was broken: the pass of replay and judge, up to the first entry at which the premise's test fails.
+#![tactic(auto)]
+
 ghost use Rattle.protocol.specs.Words.{setting_at};
 ghost use Rattle.protocol.specs.Run.{run_sheet};
 ghost use Rattle.judge_run.specs.Where.{TellsWhere};

@@ -1,4 +1,6 @@
 // What the program trace shows of an entry: the entry, and where its head stands after it.
+#![tactic(auto)]
+
 ghost use Rattle.std.specs.Prelude.{◌≡◌, replicate};
 ghost use Rattle.protocol.specs.declared.Verdict.TheVariants.{Accepted};
 ghost use Rattle.protocol.specs.Causes.{sheet_verdict};
@@ -14,14 +16,14 @@ use sheet_state::{fresh_heads, head_index};
 use sheet_words::{entry_count, read_entry, setting_at};
 
 // Which phases an entry closed early at its head.
-#[derive(Drop)]
+#[derive(Clone, Copy)]
 pub struct Early {
     pub votes: bool,
     pub adjusts: bool,
 }
 
 // An entry, with its head's candidate, adjuster, adjustment and outcome after it, and the phases that it closed early.
-#[derive(Drop)]
+#[derive(Clone, Copy)]
 pub struct Line {
     pub time: RealTime,
     pub head: u8,
@@ -34,7 +36,7 @@ pub struct Line {
 }
 
 // After an entry; where the run was refused; past the last entry.
-#[derive(Drop)]
+#[derive(Clone, Copy)]
 pub enum Traced {
     After(Line),
     RefusedAt(Cause, usize),

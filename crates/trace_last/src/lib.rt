@@ -1,5 +1,7 @@
 // The last line that trace prints: the cause of a sheet that is turned back; of another the first broken premise or 0, and where
 // it was broken.
+#![tactic(auto)]
+
 ghost use Rattle.std.specs.Prelude.{◌≡◌, ◌≤◌, length};
 ghost use Rattle.protocol.specs.Program.{last_line, last_line_of_bytes};
 ghost use Rattle.print_text.specs.Written.{written, end_of};

@@ -1,5 +1,7 @@
 // The line that trace prints after an entry: index, real time, head, action, candidate, adjuster, adjustment, outcome, and the phases
 // that the entry closed early, with `-` where there is none.
+#![tactic(auto)]
+
 ghost use Rattle.std.specs.Prelude.{◌≡◌, [], ◌∷◌, ◌++◌, ◌≤◌, length};
 ghost use Rattle.print_text.specs.Written.{written, end_of};
 ghost use Rattle.trace_text.specs.Text.{choice_text, number_text, early_text, entry_fields, entry_text};
