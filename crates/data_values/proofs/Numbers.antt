@@ -1,6 +1,6 @@
 -- Of a number below 256 nothing is cut; and what a row's number stands for.
 -- Main results: `number_same`, `number_back`.
-use mathlib.Core.Path.{◌≡◌, refl, ◌∙◌, ap}
+use mathlib.Core.Path.{◌≡◌, refl, ap}
 use Prim.Native.Nat.{ℕ, ◌+◌, ◌<◌}
 use native.Mathlib.Omega.{arith}
 use borrow.Author.Tests.{ne_eqb}

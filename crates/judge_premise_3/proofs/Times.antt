@@ -1,6 +1,6 @@
 -- The kept times of a history: whom a head's start reached, and whether the deliveries lie within the tightness.
 -- Main results: `all_reached`; `within_by_extremes`, `not_within`.
-use Rattle.std.proofs.Common.{◌≡◌, ℕ, zero, ◌+◌, ◌*◌, ◌/◌, ◌%◌, ◌^◌, ◌<◌, ◌≤◌, Bool, true, false, cond, not, ◌&&◌, eqb, leb, ◌≢◌, List, get_or, sym, refl, ap, ◌∙◌, ap₂, arith, eq-eqb, ne_eqb}
+use Rattle.std.proofs.Common.{◌≡◌, ℕ, ◌+◌, ◌*◌, ◌/◌, ◌%◌, ◌^◌, ◌<◌, ◌≤◌, Bool, true, false, cond, not, ◌&&◌, eqb, leb, ◌≢◌, List, get_or, sym, refl, ap, ◌∙◌, ap₂, arith, eq-eqb, ne_eqb}
 use Rattle.protocol.specs.declared.Setting.{Setting}
 use Rattle.protocol.specs.Base.{◌⇒◌, all_below}
 use Rattle.protocol.specs.Words.{is_correct}

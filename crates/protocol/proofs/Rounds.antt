@@ -246,7 +246,7 @@ module _ {g : Setting} {h : History} (r : Round g h) (k : Kind) (late : Late r k
         go c (sends_none x) = x.held_same ∙ z e.entry.head c
         go c (sends_one x) = absurd (silent x c x.origin)
 
-    settled_after : {s : History} (b : Event) → is_close r k b ≡ true → Earlier (b ∷ moment r k) s → Earlier s h → Settled s
+    settled_after : (b : Event) {s : History} → is_close r k b ≡ true → Earlier (b ∷ moment r k) s → Earlier s h → Settled s
     settled_after b close now x =
         let v = valid_earlier x r.sheet.valid in
         settled_step settled_first (valid_taken v) (valid_past v)

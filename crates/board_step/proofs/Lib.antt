@@ -1,2 +1,0 @@
--- What the walk of `board_step` uses.
-mod Stored

@@ -1,0 +1,6 @@
+use mathlib.Core.Path.{◌∙◌}
+use Rattle.head_median.proofs.Records.{votes_read}
+use Rattle.head_median.proofs.votes_held.Goals as goal
+
+pub returns : goal.returns
+returns c = λ r is f. c.readings_below.ensures ∙ votes_read _ r is f

@@ -1,0 +1,5 @@
+use mathlib.Core.Path.{refl}
+use Rattle.head_record.proofs.row_of.Goals as goal
+
+pub returns : goal.returns
+returns c = c.put_senders.ensures c.args.r c.bare_row-row.ensures refl

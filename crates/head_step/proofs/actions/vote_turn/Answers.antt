@@ -1,0 +1,5 @@
+use Rattle.head_step.proofs.Effects.{vote_turn_acts}
+use Rattle.head_step.proofs.actions.vote_turn.Goals as goal
+
+pub returns : goal.returns
+returns c = vote_turn_acts _ _ _ _ _ c.close_early.ensures c.with_mark.ensures c.lead-s.ensures

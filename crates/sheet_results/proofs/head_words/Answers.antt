@@ -1,0 +1,10 @@
+use Rattle.sheet_results.proofs.Words.{outcome_is, adjustment_is, start_is, frames_is}
+use Rattle.sheet_results.proofs.head_words.Goals as goal
+
+pub returns : goal.returns
+returns c =
+    λ r is range.
+    let words = c.word_6.ensures in
+    let result = c.result_numbers-x.ensures in
+    let low = c.requires in
+    (outcome_is _ _ _ _ low result words r is range, adjustment_is _ _ _ _ low result words r is range, start_is _ _ _ _ low result words r is range, frames_is _ _ c.word_9.ensures r is range)
