@@ -2,32 +2,34 @@
 // and adjustment (- for none) and outcome, and which phases the entry closed early: vote, adjust, both, or -. Its last line:
 // `refused`, the cause's number and the place; or `premises`, the first broken premise or 0, and where it was broken: `entry` and
 // its index, or `end`.
-// The sheet comes on standard input; it has at most 49,160 bytes, so one that fills the buffer is too long.
+// The sheet comes on standard input; it has at most 49,160 bytes, so an input of 65,536 is too long, and no more of it is read.
+#![tactic(auto)]
+
 ghost use Rattle.std.specs.Prelude.{◌≡◌};
 ghost use Rattle.protocol.specs.declared.Verdict.TheVariants.{Accepted};
 ghost use Rattle.protocol.specs.Causes.{sheet_verdict};
 
 use data_bytes::{big_endian, bytes_verdict};
-use libc::{STDIN_FILENO, STDOUT_FILENO};
 use protocol::Verdict;
 use sheet_open::open_actions;
 use sheet_words::sheet_verdict;
+use std::io::{self, Read};
 use trace_entries::{Line, Traced, first_heads, trace_next};
 use trace_last::put_last_line;
 use trace_text::put_entry_line;
 
-fn print(text: &[u8]) {
-    io::write_all(STDOUT_FILENO, text);
+fn print(rt: &impl Print, text: &[u8]) -> io::Result<()> {
+    rt.write_all(text)
 }
 
-fn print_line(i: usize, l: Line) {
+fn print_line(rt: &impl Print, i: usize, l: Line) -> io::Result<()> {
     let mut out = [0u8; 175];
     let n = put_entry_line(i, l, &mut out);
-    print(&out[..n]);
+    print(rt, &out[..n])
 }
 
 // Prints the entries of an accepted sheet, up to one that is refused.
-fn print_entries(sheet: &[u32])
+fn print_entries(rt: &impl Print, sheet: &[u32]) -> io::Result<()>
     requires { sheet_verdict sheet.now ≡ Accepted }
 {
     let table = open_actions();
@@ -48,44 +50,44 @@ fn print_entries(sheet: &[u32])
         );
         match t {
             Traced::After(l) => {
-                print_line(i, l);
+                print_line(rt, i, l)?;
                 time = l.time.0;
                 i += 1;
             }
-            Traced::RefusedAt(_, _) => return,
-            Traced::Ended => return,
+            Traced::RefusedAt(_, _) => return Ok(()),
+            Traced::Ended => return Ok(()),
         }
     }
 }
 
-fn print_sheet(sheet: &[u32]) {
+fn print_sheet(rt: &impl Print, sheet: &[u32]) -> io::Result<()> {
     let v = sheet_verdict(sheet);
     match v {
-        Verdict::Refused(_) => {}
-        Verdict::Accepted => print_entries(sheet),
+        Verdict::Refused(_) => Ok(()),
+        Verdict::Accepted => print_entries(rt, sheet),
     }
 }
 
-fn print_words(bytes: &[u8]) {
+fn print_words(rt: &impl Print, bytes: &[u8]) -> io::Result<()> {
     let v = bytes_verdict(bytes);
     match v {
-        Verdict::Refused(_) => {}
+        Verdict::Refused(_) => Ok(()),
         Verdict::Accepted => {
             let words = big_endian(bytes);
-            print_sheet(&words[..bytes.len() / 4]);
+            print_sheet(rt, &words[..bytes.len() / 4])
         }
     }
 }
 
-fn print_last(bytes: &[u8]) {
+fn print_last(rt: &impl Print, bytes: &[u8]) -> io::Result<()> {
     let mut out = [0u8; 64];
     let n = put_last_line(bytes, &mut out);
-    print(&out[..n]);
+    print(rt, &out[..n])
 }
 
-fn main() {
-    let mut buffer = io::large_buffer();
-    let n = io::read_full(STDIN_FILENO, &mut buffer);
-    print_words(&buffer[..n]);
-    print_last(&buffer[..n]);
+fn main(rt: HostRuntime) -> io::Result<()> {
+    let mut input = Vec::new(rt.alloc());
+    rt.reader().take(65536).read_to_end(&mut input)?;
+    print_words(&rt, &input)?;
+    print_last(&rt, &input)
 }
