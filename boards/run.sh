@@ -55,15 +55,9 @@ packages() {
 
 # The proved module as text. It says the same: compiled as was asked of the module, it is the object in the archive.
 module() {
-    rt check board_c
-    if ! cmp -s target/stamp/board_c "$work/stamp"; then
-        compile_again board_c "$work" -Wno-unused-command-line-argument -S -emit-llvm -Xclang -disable-llvm-passes \
-            -o "$work/module.ll"
-        cp target/stamp/board_c "$work/stamp"
-    fi
-    rt staticlib board_c
+    anew board_c "$work" -Wno-unused-command-line-argument -S -emit-llvm -Xclang -disable-llvm-passes -o "$work/module.ll"
     sed "s|^.*\.bc\$|$work/module.ll|; s|^.*\.o\$|$work/module.o|" "$work/asked" | xargs -d '\n' "$compiler"
-    ar p target/staticlib/libboard_c.a | cmp - "$work/module.o"
+    ar p "$work/libboard_c.a" | cmp - "$work/module.o"
 }
 
 # The module for the target: triple, data layout and processor are those that the compiler gives a function of C, and
@@ -84,12 +78,13 @@ retarget() {
 # unlike MODULE: all of it but for these words, in which the targets differ
 unlike() { sed '/^target /d; s/ "target-[a-z]*"="[^"]*"//g' "$1"; }
 
-# The library, by the toolchain's compiler with the toolchain's words but for the target's. The compiler must have nothing to
-# say: a processor that it does not know is no error to it.
+# The library, by the toolchain's compiler with what was asked of it but for the target's words and the level. The compiler must
+# have nothing to say: a processor that it does not know is no error to it.
 library() {
-    "$compiler" --target=$triple $processor "$level" -ffunction-sections -fdata-sections -mllvm -trap-unreachable \
-        -mllvm -no-trap-after-noreturn -Werror -fstack-usage -c -x ir "$folder/module.ll" -o "$folder/board_c.o" \
-        2>"$folder/said" || true
+    sed "/^--target=/d; /^--sysroot=/d; /^-march=/d; /^-fPIC\$/d; /^-O[0-9]\$/d; s|^.*\.bc\$|$folder/module.ll|
+        s|^.*\.o\$|$folder/board_c.o|" "$work/asked" >"$folder/asked"
+    printf '%s\n' --target=$triple $processor "$level" -fstack-usage >>"$folder/asked"
+    xargs -d '\n' "$compiler" <"$folder/asked" 2>"$folder/said" || true
     if [ -s "$folder/said" ]; then
         cat "$folder/said" >&2
         exit 1
@@ -131,7 +126,7 @@ tell() {
 packages
 mkdir -p "$work/x86-64"
 module
-"${CC:-cc}" -std=c99 -O2 -Wall -Wextra -pedantic -Werror -Iinclude boards/stream.c target/staticlib/libboard_c.a \
+"${CC:-cc}" -std=c99 -O2 -Wall -Wextra -pedantic -Werror -Iinclude boards/stream.c "$work/libboard_c.a" \
     -o "$work/x86-64/stream"
 "$work/x86-64/stream" >"$work/x86-64/stream.out"
 for board in cortex-m0 cortex-m3 rv32; do

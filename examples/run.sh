@@ -1,8 +1,12 @@
 #!/bin/sh
-# Builds the static libraries, compiles the C examples against them, and compares what they print. Prints "ok" at the end.
+# Builds the static libraries and the program replay, compiles the C examples against the libraries and the headers, and compares
+# what they print. Prints "ok" at the end.
 set -eu
 cd "$(dirname "$0")/.."
 out=target/examples
+board=crates/board_c/out/libboard_c.a
+sheet=crates/sheet_c/out/libsheet_c.a
+replay=crates/replay/out/replay
 mkdir -p "$out"
 
 # compile EXAMPLE FILE..: with these sources and libraries
@@ -16,8 +20,7 @@ compile() {
 build() {
     library=$1
     shift
-    rt staticlib "$library"
-    for example in "$@"; do compile "$example" "target/staticlib/lib$library.a"; done
+    for example in "$@"; do compile "$example" "$library"; done
 }
 
 # prints EXAMPLE..: each prints what its file has
@@ -46,20 +49,20 @@ drafts() {
         echo "$head 2 0 0 $start $start 0"
     done >"$out/draft.expected"
     echo "premises 0" >>"$out/draft.expected"
-    "$out/draft" "$@" | target/bin/replay | diff "$out/draft.expected" -
+    "$out/draft" "$@" | "$replay" | diff "$out/draft.expected" -
 }
 
-build board_c two_boards edges other_candidate
+sh tools/build.sh board_c sheet_c replay
+build "$board" two_boards edges other_candidate
 prints two_boards edges other_candidate
-build sheet_c one_sheet recorder draft bus_load
-compile bench examples/bench/*.c examples/firmware.c target/staticlib/libboard_c.a target/staticlib/libsheet_c.a
+build "$sheet" one_sheet recorder draft bus_load
+compile bench examples/bench/*.c examples/firmware.c "$board" "$sheet"
 prints one_sheet
 
 # M1 from its numbers is M1 word for word, and replays to M1's lines
-rt check replay
 "$out/recorder" 2 0 3 100 10 <examples/m1.numbers >"$out/m1.sheet"
 cmp samples/m1.sheet "$out/m1.sheet"
-target/bin/replay <"$out/m1.sheet" | diff samples/m1.txt -
+"$replay" <"$out/m1.sheet" | diff samples/m1.txt -
 
 yes 0 | head -n 24577 | refuses 1 recorder 2 0 3 100 10
 echo 950 1000 1 1 0 | refuses 2 recorder 2 0 3 100 10
@@ -97,7 +100,7 @@ for rounds in "1 2" "1 346" "1000 1"; do
     "$out/bench" $rounds
 done >"$out/bench.out"
 diff examples/bench.expected "$out/bench.out"
-"$out/bench" 1 346 sheet | target/bin/replay | tail -n 1 >"$out/bench.premises"
+"$out/bench" 1 346 sheet | "$replay" | tail -n 1 >"$out/bench.premises"
 echo "premises 5" | diff - "$out/bench.premises"
 if "$out/bench" 0 1 2>"$out/bench.usage"; then exit 1; fi
 echo ok

@@ -7,9 +7,9 @@ set -eu
 cd "$(dirname "$0")/.."
 work=$(mktemp -d)
 trap 'rm -rf "$work"' EXIT
-rt staticlib sheet_c >"$work/log" 2>&1 || { cat "$work/log" >&2; exit 1; }
+sh tools/build.sh sheet_c
 cd reference
-export SHEETS_LIB=../target/staticlib
+export SHEETS_LIB=../crates/sheet_c/out
 for profile in release speed; do
     cargo build --quiet --offline --profile "$profile" --features sheets --bin benchmark
 done

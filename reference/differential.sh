@@ -7,12 +7,10 @@
 set -eu
 [ $# -eq 7 ] || { echo "usage: differential.sh SEED SHEETS ACTIONS RECORDINGS DRAFTS RESULTS CALLS" >&2 && exit 2; }
 cd "$(dirname "$0")/.."
-rt check corpus trace
-rt staticlib board_c
-rt staticlib sheet_c
-(cd reference && BOARD_LIB=../target/staticlib SHEETS_LIB=../target/staticlib cargo build --release --offline --features board,sheets)
-reference/target/release/differential target/bin/corpus "$1" "$2"
-reference/target/release/traces target/bin/trace "$1" "$(($2 / 20))"
+sh tools/build.sh corpus trace board_c sheet_c
+(cd reference && BOARD_LIB=../crates/board_c/out SHEETS_LIB=../crates/sheet_c/out cargo build --release --offline --features board,sheets)
+reference/target/release/differential crates/corpus/out/corpus "$1" "$2"
+reference/target/release/traces crates/trace/out/trace "$1" "$(($2 / 20))"
 reference/target/release/actions "$1" "$3"
 reference/target/release/recordings "$1" "$4"
 reference/target/release/drafts "$1" "$5"

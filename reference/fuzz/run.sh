@@ -24,16 +24,13 @@ cover=inline-8bit-counters,pc-table,trace-cmp
 . boards/module.sh
 mkdir -p "$work/seeds" "$work/inputs"
 
-# The library compiled once more, with the fuzzer's counters, from the module that was proved.
-covered() {
-    compile_again "$crate" "$work" "-fsanitize-coverage=$cover" -o "$work/covered.o"
-    rm -f "$work/lib$crate.a"
-    ar rcs "$work/lib$crate.a" "$work/covered.o"
-    cp "target/stamp/$crate" "$work/stamp"
-}
-
-rt check "$crate"
-cmp -s "target/stamp/$crate" "$work/stamp" || covered
+# The library compiled once more, with the fuzzer's counters, from the module that was proved, in a folder of its own.
+mkdir -p "$work/proved" "$work/covered"
+anew "$crate" "$work/proved" "-fsanitize-coverage=$cover" -o "$work/covered/covered.o"
+if ! [ "$work/covered/lib$crate.a" -nt "$work/covered/covered.o" ]; then
+    rm -f "$work/covered/lib$crate.a"
+    ar rcs "$work/covered/lib$crate.a" "$work/covered/covered.o"
+fi
 
 counters=${COUNTERS:-both}
 passes="-Ccodegen-units=1"
@@ -45,7 +42,7 @@ if [ "$counters" = both ]; then
 fi
 triple=$(rustc -vV | sed -n 's/^host: //p')
 (cd reference && cargo build --release --offline --bin generate)
-(cd reference/fuzz && env "$folder=$work" RUSTFLAGS="$passes" \
+(cd reference/fuzz && env "$folder=$work/covered" RUSTFLAGS="$passes" \
     cargo build --release --offline --target "$triple" --features "$target")
 clang -fsanitize=fuzzer "reference/fuzz/target/$triple/release/libfuzz.a" -o "$work/fuzz-$counters" -lpthread -ldl -lm
 
