@@ -4,14 +4,8 @@
 
 use data_bytes::word_at;
 use print_replay::print;
+use read_input::fill;
 use std::io::{self, Read};
-
-// The next `length` bytes of standard input, or all that are left of it.
-fn read_bytes(rt: &(impl Input + AllocGlobal), length: u64) -> io::Result<Vec<u8>> {
-    let mut bytes = Vec::new(rt.alloc());
-    rt.reader().take(length).read_to_end(&mut bytes)?;
-    Ok(bytes)
-}
 
 fn print_sheet(rt: &impl Print, bytes: &[u8]) -> io::Result<()> {
     let mut out = [0u8; 1024];
@@ -20,24 +14,26 @@ fn print_sheet(rt: &impl Print, bytes: &[u8]) -> io::Result<()> {
 }
 
 // Prints the next sheet, and answers whether there was one.
-fn print_next(rt: &(impl Input + Print + AllocGlobal)) -> io::Result<bool> {
-    let number = read_bytes(rt, 4)?;
-    if number.len() < 4 {
+fn print_next(rt: &impl Print, input: &mut impl Read) -> io::Result<bool> {
+    let mut number = [0u8; 4];
+    if fill(input, &mut number)? < 4 {
         return Ok(false);
     }
-    let length = word_at(&number, 0);
+    let length = word_at(&number, 0) as usize;
     if 65536 < length {
         return Ok(false);
     }
-    let sheet = read_bytes(rt, length as u64)?;
-    print_sheet(rt, &sheet)?;
+    let mut buffer = [0u8; 65536];
+    let n = fill(input, &mut buffer[..length])?;
+    print_sheet(rt, &buffer[..n])?;
     Ok(true)
 }
 
 // At most as many sheets as a word can count.
 fn main(rt: HostRuntime) -> io::Result<()> {
+    let mut input = rt.stdin();
     for _ in 0..u32::MAX {
-        if !print_next(&rt)? {
+        if !print_next(&rt, &mut input)? {
             break;
         }
     }

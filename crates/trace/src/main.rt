@@ -2,7 +2,7 @@
 // and adjustment (- for none) and outcome, and which phases the entry closed early: vote, adjust, both, or -. Its last line:
 // `refused`, the cause's number and the place; or `premises`, the first broken premise or 0, and where it was broken: `entry` and
 // its index, or `end`.
-// The sheet comes on standard input; it has at most 49,160 bytes, so an input of 65,536 is too long, and no more of it is read.
+// The sheet comes on standard input; it has at most 49,160 bytes, so one that fills the buffer is too long.
 #![tactic(auto)]
 
 ghost use Rattle.std.specs.Prelude.{◌≡◌};
@@ -11,9 +11,10 @@ ghost use Rattle.protocol.specs.Causes.{sheet_verdict};
 
 use data_bytes::{big_endian, bytes_verdict};
 use protocol::Verdict;
+use read_input::fill;
 use sheet_open::open_actions;
 use sheet_words::sheet_verdict;
-use std::io::{self, Read};
+use std::io;
 use trace_entries::{Line, Traced, first_heads, trace_next};
 use trace_last::put_last_line;
 use trace_text::put_entry_line;
@@ -86,8 +87,8 @@ fn print_last(rt: &impl Print, bytes: &[u8]) -> io::Result<()> {
 }
 
 fn main(rt: HostRuntime) -> io::Result<()> {
-    let mut input = Vec::new(rt.alloc());
-    rt.reader().take(65536).read_to_end(&mut input)?;
-    print_words(&rt, &input)?;
-    print_last(&rt, &input)
+    let mut buffer = [0u8; 65536];
+    let n = fill(&mut rt.stdin(), &mut buffer)?;
+    print_words(&rt, &buffer[..n])?;
+    print_last(&rt, &buffer[..n])
 }
