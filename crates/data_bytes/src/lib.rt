@@ -44,8 +44,8 @@ pub fn word_at(bytes: &[u8], i: usize) -> u32
 
 // The words of a sheet of at most 49,160 bytes; zeros follow them.
 pub fn big_endian(bytes: &[u8]) -> [u32; 12290]
-    ensures value { 12290 ≡ length result }
-    ensures result_value { length bytes.now ≤ 49160 → take (length bytes.now / 4) result ≡ big_endian bytes.now }
+    ensures room { 12290 ≡ length result }
+    ensures words { length bytes.now ≤ 49160 → take (length bytes.now / 4) result ≡ big_endian bytes.now }
 {
     let mut words = [0u32; 12290];
     let mut i: usize = 0;

@@ -20,7 +20,7 @@ use Rattle.protocol.specs.Record.{reading, marks_number, record_in_range}
 use Rattle.protocol.specs.Step.{with_last, is_closed, closed_by, is_spent, taken_as, take_action, action_of, input_fits, step}
 use Rattle.protocol.specs.Row.{record_in, row_fits, row_in_range}
 use Rattle.protocol.specs.Board.{row_step}
-use Rattle.protocol.proofs.Tests.{absurd-bool, and_left, and_right}
+use Rattle.protocol.proofs.Tests.{absurd_bool, and_left, and_right}
 use Rattle.protocol.proofs.Effects.{act_accepted}
 use Rattle.head_open.proofs.Marks.{closed_by_marks, made_of}
 
@@ -57,7 +57,7 @@ module _ (w : List ℕ) (i : Input) where
       go : (a : Bool) → row_fits w ≡ a → (b : Bool) → record_in_range (record_in w) ≡ b → Refused BadRecord ≡ (row_step w i).verdict
       go false u b v = rw u refl
       go true u false v = rw (u, v) refl
-      go true u true v = absurd-bool (ap₂ ◌&&◌ u v) h
+      go true u true v = absurd_bool (ap₂ ◌&&◌ u v) h
 
   module _ (h : row_in_range w ≡ true) where
     fits : row_fits w ≡ true

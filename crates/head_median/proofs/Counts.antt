@@ -14,7 +14,7 @@ use Rattle.protocol.specs.declared.OptReading.TheVariants.{NoReading, SomeReadin
 use Rattle.protocol.specs.Median.{ordered_at}
 use Rattle.protocol.specs.Record.{reading}
 use Rattle.protocol.specs.Step.{prepend}
-use Rattle.protocol.proofs.Tests.{absurd-bool, cases, cond_elim}
+use Rattle.protocol.proofs.Tests.{absurd_bool, cases, cond_elim}
 use Rattle.protocol.proofs.Ranks.{bit, bit_le, count, is_below}
 use Rattle.head_median.specs.Ranks.{covers, none, number_from, lesser_of, least_from}
 use Rattle.head_median.specs.Readings.{heads_in, holds, held_in, readings_in}
@@ -79,7 +79,7 @@ stands_test w index x below upto some b u =
 pub vote_found : (l : List ℕ) (index x : ℕ) → holds (covers index l) x ≡ true → (0 < x) × (cond (eqb x 0) none (x - 1) ≡ ordered_at index l)
 unfolding holds
 vote_found l index x =
-    cases (eqb x 0) (λ z e. absurd-bool (rw z at e) refl)
+    cases (eqb x 0) (λ z e. absurd_bool (rw z at e) refl)
     (λ z e. (omega (arith, eqb-false x 0 z), rw z (covers_stands l index (x - 1) (rw z at e))))
 
 -- and where none does, the index is beyond the readings

@@ -21,7 +21,7 @@ use Rattle.protocol.specs.Record.{Kind, votes, adjusts, phase_of, is_number, rea
 use Rattle.protocol.specs.Step.{take_turn, with_start, with_sender, keep_vote, keep_adjust, kept_for, silent, vote, adjust, may_lead, lead, propose}
 use Rattle.protocol.specs.Step.{is_above, is_passed_over, outranks, candidate_after, delivered, effect, has_mark, is_tested, act, taken_as}
 use Rattle.protocol.specs.Row.{number_plus1, reading_plus1, own_numbers, row_of, sent_of}
-use Rattle.protocol.proofs.Tests.{absurd-bool, eqb_same, cases, cond_elim, not_true, and_left, and_right}
+use Rattle.protocol.proofs.Tests.{absurd_bool, eqb_same, cases, cond_elim, not_true, and_left, and_right}
 use Rattle.protocol.proofs.Effects.{no_number}
 use Rattle.head_row.specs.Promises.{Fits, Gives, Acts, Becomes, early_at}
 use Rattle.head_row.proofs.Rows.{own_number, voted_read, adjusted_read, start_written, taken_vote_written, taken_adjust_written, marks_written, early_read, reading_left, same_name}
@@ -111,7 +111,7 @@ module _ (row : List ℕ) (b : Bool) (p : ℕ) (b-is : b ≡ has_mark (get_or ro
   late_start x t none r is fit =
       let shut = sym (adjust_closed_read row b b-is r is) ∙ t in
       untested_gives r (StartDelivered p)
-      (cond_elim (λ (u : Stepped). Gives u row x) r.adjust.closed (λ _. (is, none)) (absurd-bool shut)) (ap not shut)
+      (cond_elim (λ (u : Stepped). Gives u row x) r.adjust.closed (λ _. (is, none)) (absurd_bool shut)) (ap not shut)
 
   module _ (i w : ℕ) (t : b ≡ false) (i-is : i ≡ p % 16) (w-is : w ≡ (get_or row 0 0 + 1) % 2 ^ 32) (small : p < 16) (r : HeadRecord) (is : row ≡ row_of r) (fit : Fits r) where
     abbrev started : HeadRecord
@@ -129,7 +129,7 @@ module _ (row : List ℕ) (b : Bool) (p : ℕ) (b-is : b ≡ has_mark (get_or ro
 
     start_taken : (row' : List ℕ) (x : Sent) → Gives (lead started) row' x → Gives (effect r (StartDelivered p)) row' x
     unfolding effect
-    start_taken row' x g = cond_elim (λ (u : Stepped). Gives u row' x) r.adjust.closed (λ f. absurd-bool f still_open) (λ _. g)
+    start_taken row' x g = cond_elim (λ (u : Stepped). Gives u row' x) r.adjust.closed (λ f. absurd_bool f still_open) (λ _. g)
 
     is_tested_lem : is_tested r (StartDelivered p) ≡ true
     unfolding is_tested
@@ -155,7 +155,7 @@ module _ (row : List ℕ) (b : Bool) (p : ℕ) (b-is : b ≡ has_mark (get_or ro
       start_waits row' x y none led =
           let both = sym marks_read ∙ y in
           idle_gives r (StartDelivered p) (start_taken row' x (leads row' x led)) is_tested_lem
-          (cond_elim (λ (v : Stepped). closes v.after ≡ v.after) r.adjust.closed (λ f. absurd-bool f still_open)
+          (cond_elim (λ (v : Stepped). closes v.after ≡ v.after) r.adjust.closed (λ f. absurd_bool f still_open)
           (λ _. cond_elim (λ (v : Stepped). Gives v row' x → closes v.after ≡ v.after) (may_lead started)
           (λ _ g. absurd (let e : ◌≡◌ {A = ℕ} 0 5 = sym none ∙ ap (λ (s : Sent). s.kind) g.1 in omega arith))
           (λ _ _. idle started (fits_heads (sender_fits_lem fit p _ (fit.readings p)))
@@ -167,14 +167,14 @@ module _ (row : List ℕ) (b : Bool) (p : ℕ) (b-is : b ≡ has_mark (get_or ro
       unfolding lead may_lead
       start_decided closed x n none tests =
           tested_gives r (StartDelivered p) (start_taken _ x (cond_elim (λ (v : Stepped). Gives v (set row (16 + i) w) x) (may_lead started)
-          (λ y. absurd-bool (led_undecided r.vote.turn (not r.vote.closed) (not (is_number r.vote.choice)) _ y) (sym marks_read ∙ n)) (λ _. (started_row, none))))
+          (λ y. absurd_bool (led_undecided r.vote.turn (not r.vote.closed) (not (is_number r.vote.choice)) _ y) (sym marks_read ∙ n)) (λ _. (started_row, none))))
           (fits_heads fit) is_tested_lem tests
         where
           led_undecided : (a b c d : Bool) → (a && (b && (c && d))) ≡ true → (b && c) ≡ true
           led_undecided true true true d e = refl
           led_undecided true true false d e = e
           led_undecided true false c d e = e
-          led_undecided false b c d e = absurd-bool e refl
+          led_undecided false b c d e = absurd_bool e refl
 
 -- A DELIVERED VOTE OR ADJUST
 
@@ -204,12 +204,12 @@ module _ (phase : Phase) (last : OptNumber) (serial : ℕ) {b h : Bool} {next : 
     passes_over : b ≡ true → row ≡ row_of r → x ≡ sent_of NoFrame → Gives (delivered phase last serial c r taken adopt) row x
     unfolding delivered
     passes_over t is none =
-        cond_elim (λ (u : Stepped). Gives u row x) (is_passed_over phase last serial) (λ _. (is, none)) (absurd-bool (sym over ∙ t))
+        cond_elim (λ (u : Stepped). Gives u row x) (is_passed_over phase last serial) (λ _. (is, none)) (absurd_bool (sym over ∙ t))
 
     takes : b ≡ false → Gives (cond (outranks c phase.choice) (adopt taken) (silent taken)) row x → Gives (delivered phase last serial c r taken adopt) row x
     unfolding delivered
     takes f g =
-        cond_elim (λ (u : Stepped). Gives u row x) (is_passed_over phase last serial) (λ t. absurd-bool t (sym over ∙ f)) (λ _. g)
+        cond_elim (λ (u : Stepped). Gives u row x) (is_passed_over phase last serial) (λ t. absurd_bool t (sym over ∙ f)) (λ _. g)
 
 -- held is what the row has of the choice
 module _ (choice : OptNumber) (c : ℕ) (small : c < 16) {o : Bool} {held : ℕ} (o_is : o ≡ (eqb held 0 || ltb ((c + 1) % 2 ^ 32) held)) (held_is : held ≡ number_plus1 choice)
@@ -218,10 +218,10 @@ module _ (choice : OptNumber) (c : ℕ) (small : c < 16) {o : Bool} {held : ℕ}
   higher = o_is ∙ ap (λ (v : ℕ). eqb v 0 || ltb ((c + 1) % 2 ^ 32) v) held_is ∙ outranks_held c choice small
 
   adopts : o ≡ true → Gives (adopt taken) row x → Gives (cond (outranks c choice) (adopt taken) (silent taken)) row x
-  adopts t g = cond_elim (λ (u : Stepped). Gives u row x) (outranks c choice) (λ _. g) (absurd-bool (sym higher ∙ t))
+  adopts t g = cond_elim (λ (u : Stepped). Gives u row x) (outranks c choice) (λ _. g) (absurd_bool (sym higher ∙ t))
 
   keeps : o ≡ false → row ≡ row_of taken → x ≡ sent_of NoFrame → Gives (cond (outranks c choice) (adopt taken) (silent taken)) row x
-  keeps t is none = cond_elim (λ (u : Stepped). Gives u row x) (outranks c choice) (λ e. absurd-bool e (sym higher ∙ t)) (λ _. (is, none))
+  keeps t is none = cond_elim (λ (u : Stepped). Gives u row x) (outranks c choice) (λ e. absurd_bool e (sym higher ∙ t)) (λ _. (is, none))
 
 -- A VOTE THAT IS TAKEN
 

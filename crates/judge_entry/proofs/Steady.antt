@@ -18,7 +18,7 @@ use Rattle.protocol.specs.Base.{◌⇒◌, all, distance, table}
 use Rattle.protocol.specs.Words.{is_correct, setting_at, entry_at}
 use Rattle.protocol.specs.Run.{Event, History, last_time}
 use Rattle.protocol.specs.Premises.{each, is_steady, premise2}
-use Rattle.protocol.proofs.Tests.{absurd-bool, cases, and_both, and_left, and_right}
+use Rattle.protocol.proofs.Tests.{absurd_bool, cases, and_both, and_left, and_right}
 use Rattle.protocol.proofs.Tables.{table_at, set_table}
 use Rattle.protocol.proofs.Signed.{Difference, up, down, difference_of, difference_pos}
 use Rattle.protocol.proofs.Valid.{Valid, start, more}
@@ -50,9 +50,9 @@ le_difference {x} {y} {u} {v} (down m d) (down n e) = same_order n m (x + v) (u 
 le_both : (x y z : ℤ) → le_z x y ≡ true → le_z y z ≡ true → le_z x z ≡ true
 le_both (pos a) (pos b) (pos c) e f = let p = leb-true a b e in let q = leb-true b c f in le-leb a c (omega arith)
 le_both (pos a) (pos b) (negsuc c) e f = f
-le_both (pos a) (negsuc b) z e f = absurd-bool e refl
+le_both (pos a) (negsuc b) z e f = absurd_bool e refl
 le_both (negsuc a) y (pos c) e f = refl
-le_both (negsuc a) (pos b) (negsuc c) e f = absurd-bool f refl
+le_both (negsuc a) (pos b) (negsuc c) e f = absurd_bool f refl
 le_both (negsuc a) (negsuc b) (negsuc c) e f = let p = leb-true b a e in let q = leb-true c b f in le-leb c a (omega arith)
 
 other_order : (a b : ℕ) → ltb a b ≡ not (leb b a)
@@ -67,7 +67,7 @@ less_test (negsuc a) (negsuc b) = other_order b a
 le_total : (x y : ℤ) → le_z x y ≡ false → le_z y x ≡ true
 le_total (pos a) (pos b) e = let p = leb-false a b e in le-leb b a (omega arith)
 le_total (pos a) (negsuc b) e = refl
-le_total (negsuc a) (pos b) e = absurd-bool refl e
+le_total (negsuc a) (pos b) e = absurd_bool refl e
 le_total (negsuc a) (negsuc b) e = let p = leb-false b a e in le-leb a b (omega arith)
 
 -- at most the lesser of two is at most both

@@ -13,8 +13,8 @@ use Rattle.protocol.specs.Words.{is_correct}
 use Rattle.protocol.specs.Record.{is_number, votes, fresh}
 use Rattle.protocol.specs.Run.{History, record_of}
 use Rattle.protocol.specs.Premises.{takes, took, correct_closes, is_early}
-use Rattle.protocol.proofs.Tests.{absurd-bool, cases, and_right, and_both, or_first, or_second, or_cases, eqb_same}
-use Rattle.protocol.proofs.Effects.{none-is-some, some_number}
+use Rattle.protocol.proofs.Tests.{absurd_bool, cases, and_right, and_both, or_first, or_second, or_cases, eqb_same}
+use Rattle.protocol.proofs.Effects.{none_is_some, some_number}
 use Rattle.protocol.proofs.Valid.{Valid, start, more, by_head, started_took, confirmed_took, turn_took}
 use Rattle.protocol.proofs.Ranges.{run_in_range}
 use Rattle.protocol.proofs.Phases.{held, held_other, Origin, own, reached, Turn, sends_none, sends_one, turn, took_close}
@@ -26,7 +26,7 @@ module _ {g : Setting} where
   -- who has a candidate took its vote turn or was delivered a vote
   candidate_came : {s : History} → Valid g s → (q c : ℕ) → held g votes s q ≡ SomeNumber c → (took 4 q s || took 5 q s) ≡ true
   unfolding record_of fresh
-  candidate_came start q c = none-is-some
+  candidate_came start q c = none_is_some
   candidate_came (more {e = e} {s = s} t v) q c =
       by_head (λ q. held g votes (e ∷ s) q ≡ SomeNumber c → (took 4 q (e ∷ s) || took 5 q (e ∷ s)) ≡ true) e q
       (at_head (turn g votes t v) (candidate_came v e.entry.head c))
@@ -62,7 +62,7 @@ module _ {g : Setting} where
       delivered : took 5 p s ≡ true → (m : ℕ) × (held g votes s p ≡ SomeNumber m)
       delivered x =
           cases (is_early g votes s p) (early_holds g votes H.few v p (H.below p c))
-          (λ o. delivered_holds g votes H.few v p (H.below p c) x (cases (took 6 p s) (λ t. absurd-bool (took_close g votes v p c o t) unclosed) (λ t. t)))
+          (λ o. delivered_holds g votes H.few v p (H.below p c) x (cases (took 6 p s) (λ t. absurd_bool (took_close g votes v p c o t) unclosed) (λ t. t)))
 
       turned : took 4 p s ≡ true → (took 5 p s || (took 1 p s && (took 3 p s && took 4 p s))) ≡ true
       turned h =

@@ -17,7 +17,7 @@ use Rattle.protocol.specs.Words.{setting_at, entry_count}
 use Rattle.protocol.specs.Causes.{sheet_verdict}
 use Rattle.protocol.specs.Run.{History, stopped, ran, run_of, run_sheet}
 use Rattle.protocol.specs.Premises.{premise2, premise3, premise5, premise6, premise7, premise8, premises, kept_up_to, broken_at}
-use Rattle.protocol.proofs.Tests.{absurd-bool, not_true, not_false}
+use Rattle.protocol.proofs.Tests.{absurd_bool, not_true, not_false}
 use Rattle.protocol.proofs.Broken.{prior, run_length, kept_on, fails_now, stays_failed}
 use Rattle.judge_premises_5_to_8.specs.Closes.{flag, found_of, Found}
 use Rattle.judge_run.specs.Where.{IsAskedAtEntries, TellsBroken, TellsWhere}
@@ -50,7 +50,7 @@ found_tells i found other g s f = go i other
     go (suc zero) d a = absurd (let l = a.0 in omega arith)
     go (suc (suc zero)) d a = absurd (d refl)
     go (suc (suc (suc zero))) d a = told 3 (premise3 g s) refl
-    go (suc (suc (suc (suc zero)))) d a = absurd-bool refl a.2
+    go (suc (suc (suc (suc zero)))) d a = absurd_bool refl a.2
     go (suc (suc (suc (suc (suc zero))))) d a = told 5 (premise5 g s) refl
     go (suc (suc (suc (suc (suc (suc zero)))))) d a = told 6 (premise6 g s) refl
     go (suc (suc (suc (suc (suc (suc (suc zero))))))) d a = told 7 (premise7 g s) refl

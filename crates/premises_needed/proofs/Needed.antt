@@ -16,7 +16,7 @@ use Rattle.protocol.specs.Words.{setting_at}
 use Rattle.protocol.specs.Run.{Event, History, Run, stopped, ran, run_sheet}
 use Rattle.protocol.specs.Premises.{premises, first_broken, judge}
 use Rattle.protocol.specs.Claim.{CorrectHead, Ending, LookedAt, bound_on_d, Agreement}
-use Rattle.protocol.proofs.Tests.{absurd-bool, and_left, and_right, not_true, not_is_true, implied, all_below_lem}
+use Rattle.protocol.proofs.Tests.{absurd_bool, and_left, and_right, not_true, not_is_true, implied, all_below_lem}
 use Rattle.protocol.proofs.ThirdPoint.{third_point}
 use Rattle.protocol.proofs.Computed.{sheets_compute}
 use Rattle.premises_needed.specs.Needed.{Failure, without_clock, candidates_differ, adjustments_differ, clocks_apart, keeps, keeps_others, ending, is_correct_head, differ, up_to, is_look, since, are_apart, fails, ThirdPointWithout, BrokenAlone}
@@ -47,8 +47,8 @@ module _ (g : Setting) (h : History) where
   }
 
   no_clocks_apart : (j k : ℕ) (s t : History) → drop j h ≡ s → drop k h ≡ t → are_apart g h s t ≡ true → Agreement g h (ending g h) → ⊥
-  no_clocks_apart j k [] t there-j there-k e a = absurd-bool e refl
-  no_clocks_apart j k (d ∷ s) [] there-j there-k e a = absurd-bool e refl
+  no_clocks_apart j k [] t there-j there-k e a = absurd_bool e refl
+  no_clocks_apart j k (d ∷ s) [] there-j there-k e a = absurd_bool e refl
   no_clocks_apart j k (d ∷ s) (e ∷ t) there-j there-k test a =
       let look-d = and_left (is_look g h d s) _ test in
       let rest = and_right (is_look g h d s) _ test in
@@ -84,7 +84,7 @@ all_pass = refl
 
 -- what a run that passes shows
 shown_by : (i : ℕ) (ws : List ℕ) (x : Failure) (r : Run) → run_sheet ws ≡ r → passes i (setting_at ws) x r ≡ true → BrokenAlone i ws x
-shown_by i ws x (stopped c p) is e = absurd-bool e refl
+shown_by i ws x (stopped c p) is e = absurd_bool e refl
 shown_by i ws x (ran h) is e =
     let g = setting_at ws in
     let rest = and_right (not (keeps g h i)) _ e in

@@ -11,8 +11,8 @@ use Rattle.protocol.specs.Types.{Reading, OptReading, SomeReading, NoNumber, Som
 use Rattle.protocol.specs.Record.{fresh}
 use Rattle.protocol.specs.Step.{vote, adjust, accepted, concluded, is_tested}
 use Rattle.protocol.specs.Run.{Event, History, record_of, is_delivered_by, or_else, frame_sent, is_frame, carried_reading}
-use Rattle.protocol.proofs.Tests.{absurd-bool, eqb_same}
-use Rattle.protocol.proofs.Effects.{adjusts, Delivery, named, Sending, nothing, voting, adjusting, send, prepared, sending_of, Allowed, sends_adjust, allowed, Why, itself, told, Source, computed, passed_on, closed_last, none-is-some, same_number_lem}
+use Rattle.protocol.proofs.Tests.{absurd_bool, eqb_same}
+use Rattle.protocol.proofs.Effects.{adjusts, Delivery, named, Sending, nothing, voting, adjusting, send, prepared, sending_of, Allowed, sends_adjust, allowed, Why, itself, told, Source, computed, passed_on, closed_last, none_is_some, same_number_lem}
 use Rattle.protocol.proofs.Valid.{base_of, Taken, Valid, start, more, record_at, record_other, by_head, delivery_at, is_delivery, of_effect, fixed, frame_fits}
 use Rattle.protocol.proofs.Phases.{held, sent, names, names_other, sent_other, unsent, SendsOne, turn, frame_new, held_sent, last_frame, frame_stays}
 
@@ -75,13 +75,13 @@ module _ (g : Setting) where
 
   -- a frame that was sent is the one looked up ever after
   kept_frame : (x y : Frame) → is_frame x ≡ true → or_else x y ≡ x
-  kept_frame NoFrame y h = absurd-bool h refl
+  kept_frame NoFrame y h = absurd_bool h refl
   kept_frame Start y h = refl
   kept_frame (Vote j c z) y h = refl
   kept_frame (Adjust j c z) y h = refl
 
   named_is_frame : (x : Frame) (c : ℕ) → named x ≡ SomeNumber c → is_frame x ≡ true
-  named_is_frame NoFrame c h = none-is-some h
+  named_is_frame NoFrame c h = none_is_some h
   named_is_frame Start c h = refl
   named_is_frame (Vote j d z) c h = refl
   named_is_frame (Adjust j d z) c h = refl
@@ -99,9 +99,9 @@ module _ (g : Setting) where
       go : (x : Frame) → named x ≡ NoNumber → (is_frame x ≡ true → is_delivered_by 8 j x ≡ true)
           → carried_reading (or_else x (cond (eqb e.entry.head e.entry.head && is_delivered_by 8 j e.frame) e.frame NoFrame)) ≡ carried_reading e.frame
       go NoFrame u f = rw (eqb_same e.entry.head, d) refl
-      go Start u f = absurd-bool (f refl) refl
-      go (Vote i c z) u f = none-is-some (sym u)
-      go (Adjust i c z) u f = none-is-some (sym u)
+      go Start u f = absurd_bool (f refl) refl
+      go (Vote i c z) u f = none_is_some (sym u)
+      go (Adjust i c z) u f = none_is_some (sym u)
 
   -- every adjust that names c carries what c's own adjust of serial 0 carries
   pub record Single (s : History) (c : ℕ) (x : OptReading) : Type 0 where
@@ -118,7 +118,7 @@ module _ (g : Setting) where
     where
       go : (m : ℕ) → sent g adjusts s q ≡ m → sent g adjusts s q ≡ 0
       go zero u = u
-      go (suc j) u = none-is-some (sym h ∙ (last_frame g adjusts v q j u).holds)
+      go (suc j) u = none_is_some (sym h ∙ (last_frame g adjusts v q j u).holds)
 
   -- the adjust that a head sends is looked up under its next serial
   value_sent : {s : History} (e : Event) {c : ℕ} {x : Reading} → Valid g s → e.frame ≡ Adjust (sent g adjusts s e.entry.head) c x
@@ -158,7 +158,7 @@ module _ (g : Setting) where
 
   pub single : {s : History} → Valid g s → (p j c : ℕ) → names g adjusts s p j ≡ SomeNumber c → Single s c (adjustment_sent s p j)
   unfolding frame_sent
-  single start p j c = none-is-some
+  single start p j c = none_is_some
   single (more {e = e} {s = s} t v) p j c =
       by_head (λ p. names g adjusts (e ∷ s) p j ≡ SomeNumber c → Single (e ∷ s) c (adjustment_sent (e ∷ s) p j)) e p
       (frame_new g adjusts (λ j c. Single (e ∷ s) c (adjustment_sent (e ∷ s) e.entry.head j)) (turn g adjusts t v) (λ j c h. old e.entry.head j c h (single v e.entry.head j c h))

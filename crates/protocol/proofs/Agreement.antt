@@ -19,9 +19,9 @@ use Rattle.protocol.specs.Step.{adjust, prepend, starts_held, vote_readings, may
 use Rattle.protocol.specs.Run.{Event, History, record_of}
 use Rattle.protocol.specs.Premises.{takes, receives, took, received, correct_all, start_within, premise3, last_start}
 use Rattle.protocol.specs.Claim.{CorrectHead}
-use Rattle.protocol.proofs.Tests.{absurd-bool, cases, and_left, and_right, and_both, or_second, or_left, or_cases, implied, not_false, count_mono}
+use Rattle.protocol.proofs.Tests.{absurd_bool, cases, and_left, and_right, and_both, or_second, or_left, or_cases, implied, not_false, count_mono}
 use Rattle.protocol.proofs.Moments.{Earlier, now, earlier_trans, earlier_past, any_grows, any_map, find, each_at}
-use Rattle.protocol.proofs.Effects.{votes, adjusts, is_timed, prepared, Sending, nothing, adjusting, send, sending_of, named_in, chosen_by, allowed, naming, closed_last, prepared_same, none-is-some, some_number, answer, TakenAs, taken_turn, own_kept, own_unsent, own_sent}
+use Rattle.protocol.proofs.Effects.{votes, adjusts, is_timed, prepared, Sending, nothing, adjusting, send, sending_of, named_in, chosen_by, allowed, naming, closed_last, prepared_same, none_is_some, some_number, answer, TakenAs, taken_turn, own_kept, own_unsent, own_sent}
 use Rattle.protocol.proofs.Valid.{base_of, Valid, start, more, valid_past, valid_taken, valid_earlier, Taken, record_at, record_other, by_head, of_effect, fixed, turn_took}
 use Rattle.protocol.proofs.Ranges.{run_in_range}
 use Rattle.protocol.proofs.Phases.{held, held_other, phase_at, over_keeps, delivered_choice, held_sent, falls_later}
@@ -31,7 +31,7 @@ use Rattle.protocol.proofs.Rounds.{Round, correct_at, correct_heads, moment, Lat
 -- AN ADJUST TURN GIVES AN ADJUSTER
 
 one_reading : (x : OptReading) (l : List ℕ) → is_reading x ≡ true → 1 ≤ length (prepend x l)
-one_reading NoReading l e = absurd-bool e refl
+one_reading NoReading l e = absurd_bool e refl
 one_reading (SomeReading x) l e = omega arith
 
 more_readings : (x : OptReading) (l : List ℕ) → 1 ≤ length l → 1 ≤ length (prepend x l)
@@ -58,7 +58,7 @@ turn_adjusts r v e l k = go (may_adjust (prepared r AdjustTurn)) _ refl
         (λ y. let candidate : is_number r.vote.choice ≡ true = rw e refl in
         let enough : leb 1 (length (vote_readings (prepared r AdjustTurn) r.n)) ≡ true = le-leb 1 (length (vote_readings (prepared r AdjustTurn) r.n)) (some_reading (prepared r AdjustTurn) r.n r.own l k) in
         let free : not (is_number r.adjust.choice) ≡ true = rw y refl in
-        absurd-bool (and_both candidate (and_both free enough)) u)
+        absurd_bool (and_both candidate (and_both free enough)) u)
 
 module _ (g : Setting) where
   -- an action 7 that does not find the adjust phase closed early is taken as an adjust turn
@@ -126,7 +126,7 @@ module _ {g : Setting} {h : History} (r : Round g h) where
   pub adjust_later : {s : History} → Valid g s → (q : ℕ) → q < g.n → (record_of g s q).vote.closed ≡ false → (record_of g s q).adjust.closed ≡ false
   adjust_later {s} v q l o =
       cases (record_of g s q).adjust.closed
-      (λ u. absurd-bool ((run_in_range r.sheet.heads_fit_test v q l).marks.adjusting (or_second (record_of g s q).adjust.turn _ u)) o) (λ u. u)
+      (λ u. absurd_bool ((run_in_range r.sheet.heads_fit_test v q l).marks.adjusting (or_second (record_of g s q).adjust.turn _ u)) o) (λ u. u)
 
 -- (a) IF NO HEAD CLOSES ITS VOTE EARLY, EVERY CORRECT HEAD HAS A CANDIDATE AT THE FIRST CORRECT VOTE CLOSE
 
@@ -150,11 +150,11 @@ module _ {g : Setting} {h : History} (r : Round g h) (late : Late r votes) where
         voted = told_candidate d t
 
         go : (b : Bool) → eqb q p ≡ b → ⊥
-        go true u = none-is-some (sym none ∙ ap (held g votes V₁) (eqb-true q p u) ∙ voted.1)
+        go true u = none_is_some (sym none ∙ ap (held g votes V₁) (eqb-true q p u) ∙ voted.1)
         go false u =
             let j = held_sent g votes (valid_moment r votes late) p voted.0 voted.1 in
             let x = told_candidate c (received_took 5 p j.0 q V₁ (reaches r votes late d c u j.0 (let y = j.1 in omega arith))) in
-            none-is-some (sym none ∙ x.1)
+            none_is_some (sym none ∙ x.1)
 
     -- so every correct head took 1, 3 and 4
     took_all : {p : ℕ} → CorrectHead g p → (took 1 p V₁ && (took 3 p V₁ && took 4 p V₁)) ≡ true
@@ -234,7 +234,7 @@ module _ {g : Setting} {h : History} (r : Round g h) where
 
   pub own_reading : {s : History} → Valid g s → Earlier s h → (q c : ℕ) → CorrectHead g q → held g votes s q ≡ SomeNumber c → is_reading (vote_of (record_of g s q) q) ≡ true
   unfolding record_of fresh
-  own_reading start x q c = λ cq t. none-is-some t
+  own_reading start x q c = λ cq t. none_is_some t
   own_reading (more {e = e} {s = s} t v) x q c =
       by_head (λ q. CorrectHead g q → held g votes (e ∷ s) q ≡ SomeNumber c → is_reading (vote_of (record_of g (e ∷ s) q) q) ≡ true) e q
       (λ cq u. go cq u (own_reading_at g r.sheet.at_most_16 t v) (own_reading v (earlier_past x) e.entry.head c cq))

@@ -19,7 +19,7 @@ use Rattle.protocol.specs.Premises.{last_start, judge}
 use Rattle.protocol.specs.Claim.{ending_of, apart, bound_on_d}
 use Rattle.protocol.specs.Spelling.{sheet_of}
 use Rattle.protocol.specs.Recorder.{setting_from, entries_in}
-use Rattle.protocol.proofs.Tests.{absurd-bool, and_left, and_right, same_list, same_list_lem, all_at}
+use Rattle.protocol.proofs.Tests.{absurd_bool, and_left, and_right, same_list, same_list_lem, all_at}
 use Rattle.protocol.proofs.Computed.{sheets_compute}
 
 -- a sheet, the indices of the two looks, and by head what it has closed early at the end: 1 for the votes, 2 for the adjusts
@@ -124,8 +124,8 @@ is_kept (Unjudged c p) = false
 
 is_kept_lem : (j : Judged) → is_kept j ≡ true → j ≡ Kept
 is_kept_lem Kept e = refl
-is_kept_lem (Broken i) e = absurd-bool e refl
-is_kept_lem (Unjudged c p) e = absurd-bool e refl
+is_kept_lem (Broken i) e = absurd_bool e refl
+is_kept_lem (Unjudged c p) e = absurd_bool e refl
 
 abbrev passes : Widest → Bool
 passes x = is_kept (judge x.words) && (eqb (distance_in x) (bound_in x) && same_list (early_marks (setting_at x.words) (run_sheet x.words)) x.early)

@@ -18,7 +18,7 @@ use Rattle.protocol.specs.Causes.{sheet_verdict}
 use Rattle.protocol.specs.Run.{History, last_time, step_entry, Run, stopped, ran, extend, and_then, run_of}
 use Rattle.protocol.specs.Results.{Replay, words_per_head, fill, fill_after, replay}
 use Rattle.protocol.specs.Program.{refused_line, bytes_verdict, printed}
-use Rattle.protocol.proofs.Tests.{absurd-bool, cond_elim}
+use Rattle.protocol.proofs.Tests.{absurd_bool, cond_elim}
 
 whole_length : (ws : List ℕ) (k : ℕ) → length ws ≡ 2 + 3 * k → (ltb (length ws) 2 || not (eqb ((length ws - 2) % 3) 0)) ≡ false
 whole_length ws k e = rw (le-ltb (length ws) 2 (omega arith), eq-eqb ((length ws - 2) % 3) 0 (omega arith)) refl
@@ -28,7 +28,7 @@ pub whole_entries_pass : (ws : List ℕ) (k : ℕ) → length ws ≡ 2 + 3 * k �
     → first_word_fits (get_or ws 0 0) ≡ true → second_word_fits (get_or ws 1 0) ≡ true → sheet_verdict ws ≡ Accepted
 unfolding sheet_verdict
 whole_entries_pass ws k e h a b =
-    cond_elim (λ v. v ≡ Accepted) (ltb most_words (length ws)) (λ t. absurd-bool t (le-ltb most_words (length ws) (omega arith)))
+    cond_elim (λ v. v ≡ Accepted) (ltb most_words (length ws)) (λ t. absurd_bool t (le-ltb most_words (length ws) (omega arith)))
     (λ _. rw (whole_length ws k e, a, b) refl)
 
 -- "more than 12,290 words" are cause 1, whatever else holds of them
@@ -36,14 +36,14 @@ pub too_many_words : (ws : List ℕ) → 12290 < length ws → sheet_verdict ws 
 unfolding sheet_verdict
 too_many_words ws h =
     cond_elim (λ v. v ≡ Refused TooManyWords) (ltb most_words (length ws)) (λ _. refl)
-    (λ t. absurd-bool (lt-ltb most_words (length ws) h) t)
+    (λ t. absurd_bool (lt-ltb most_words (length ws) h) t)
 
 -- "Sheet order: 1 to 5": cause 3 whatever the second word, cause 5 whatever the entries
 pub first_word_first : (ws : List ℕ) (k : ℕ) → length ws ≡ 2 + 3 * k → k ≤ 4096
     → first_word_fits (get_or ws 0 0) ≡ false → sheet_verdict ws ≡ Refused BadFirstWord
 unfolding sheet_verdict
 first_word_first ws k e h a =
-    cond_elim (λ v. v ≡ Refused BadFirstWord) (ltb most_words (length ws)) (λ t. absurd-bool t (le-ltb most_words (length ws) (omega arith)))
+    cond_elim (λ v. v ≡ Refused BadFirstWord) (ltb most_words (length ws)) (λ t. absurd_bool t (le-ltb most_words (length ws) (omega arith)))
     (λ _. rw (whole_length ws k e, a) refl)
 
 pub buffer_before_entries : (ws out : List ℕ) → sheet_verdict ws ≡ Accepted → length out < words_per_head * (setting_at ws).n
@@ -94,7 +94,7 @@ time_before_reading g s e h = rw (lt-ltb e.time.0 (last_time s) h) refl
 pub reading_before_closed : (r : HeadRecord) (x : Reading) (sent : Bool) (a : Action) → x.0 < r.last.0 → take_action r x sent a ≡ refused r ReadingFell
 unfolding take_action
 reading_before_closed r x sent a h =
-    cond_elim (λ t. t ≡ refused r ReadingFell) (ltb x.0 r.last.0) (λ _. refl) (λ t. absurd-bool (lt-ltb x.0 r.last.0 h) t)
+    cond_elim (λ t. t ≡ refused r ReadingFell) (ltb x.0 r.last.0) (λ _. refl) (λ t. absurd_bool (lt-ltb x.0 r.last.0 h) t)
 
 -- "One head: 10, 6, 8, 9"
 pub record_before_entry : (r : HeadRecord) (i : Input) → record_in_range r ≡ false → step r i ≡ refused r BadRecord

@@ -14,7 +14,7 @@ use Rattle.protocol.specs.Words.{has_serial, has_sender, zero_where_unused}
 use Rattle.protocol.specs.Record.{Kind, votes, adjusts}
 use Rattle.protocol.specs.Premises.{turning, delivery, closing}
 use Rattle.protocol.specs.Draft.{Slot, slots, phase_order, round_order, draft_entry, is_receiver, entries_from, draft_entries, last_slot_time}
-use Rattle.protocol.proofs.Tests.{absurd-bool, cases, not_true}
+use Rattle.protocol.proofs.Tests.{absurd_bool, cases, not_true}
 use Rattle.protocol.proofs.Tables.{table_from}
 use Rattle.protocol.proofs.DraftRoom.{slot, entries_join, slots_length, phase_length, order_length}
 
@@ -292,16 +292,16 @@ numbers {n} {a} {i = i} nine z r t b h =
     by_phase adjusts e = h.2 e
 
 pub facts : {n a q p i : ℕ} → At n a q p i → Facts n a q p i
-facts (starts l) = numbers (omega arith) refl (λ h. absurd-bool h refl) (λ _. omega arith) (l, omega arith, omega arith, omega arith) (λ e. omega arith, λ e. omega arith, λ e. omega arith)
-facts (start_heard l lp) = numbers (omega arith) refl (λ _. refl) (absurd-bool refl) (l, lp, omega arith, omega arith) (λ e. omega arith, λ e. omega arith, λ e. omega arith)
-facts (confirms l) = numbers (omega arith) refl (λ h. absurd-bool h refl) (λ _. omega arith) (l, omega arith, omega arith, omega arith) (λ e. omega arith, λ e. omega arith, λ e. omega arith)
-facts (leads votes pos) = numbers (omega arith) refl (λ h. absurd-bool h refl) (λ _. omega arith) (pos, pos, omega arith, omega arith) (λ e. omega arith, λ e. omega arith, λ e. omega arith)
-facts (leads adjusts pos) = numbers (omega arith) refl (λ h. absurd-bool h refl) (λ _. omega arith) (pos, pos, omega arith, omega arith) (λ e. omega arith, λ e. omega arith, λ e. omega arith)
-facts (first_heard votes {q} z l) = numbers (omega arith) refl (λ _. rw (ne_eqb q 0 (λ e. omega arith)) refl) (absurd-bool refl) (l, omega arith, omega arith, omega arith) (λ e. omega arith, λ e. omega arith, λ e. omega arith)
-facts (first_heard adjusts {q} z l) = numbers (omega arith) refl (λ _. rw (ne_eqb q 0 (λ e. omega arith)) refl) (absurd-bool refl) (l, omega arith, omega arith, omega arith) (λ e. omega arith, λ e. omega arith, λ e. omega arith)
-facts (turns votes z l) = numbers (omega arith) refl (λ h. absurd-bool h refl) (λ _. omega arith) (l, omega arith, omega arith, omega arith) (λ e. omega arith, λ e. omega arith, λ e. omega arith)
-facts (turns adjusts z l) = numbers (omega arith) refl (λ h. absurd-bool h refl) (λ _. omega arith) (l, omega arith, omega arith, omega arith) (λ e. omega arith, λ e. omega arith, λ e. omega arith)
-facts (heard votes {q} {p} d l z lp) = numbers (omega arith) refl (λ _. rw (ne_eqb q p d) refl) (absurd-bool refl) (l, lp, omega arith, omega arith) (λ e. omega arith, λ e. omega arith, λ e. omega arith)
-facts (heard adjusts {q} {p} d l z lp) = numbers (omega arith) refl (λ _. rw (ne_eqb q p d) refl) (absurd-bool refl) (l, lp, omega arith, omega arith) (λ e. omega arith, λ e. omega arith, λ e. omega arith)
-facts (closes votes l) = numbers (omega arith) refl (λ h. absurd-bool h refl) (λ _. omega arith) (l, omega arith, omega arith, omega arith) (λ e. omega arith, λ e. omega arith, λ e. omega arith)
-facts (closes adjusts l) = numbers (omega arith) refl (λ h. absurd-bool h refl) (λ _. omega arith) (l, omega arith, omega arith, omega arith) (λ e. omega arith, λ e. omega arith, λ e. omega arith)
+facts (starts l) = numbers (omega arith) refl (λ h. absurd_bool h refl) (λ _. omega arith) (l, omega arith, omega arith, omega arith) (λ e. omega arith, λ e. omega arith, λ e. omega arith)
+facts (start_heard l lp) = numbers (omega arith) refl (λ _. refl) (absurd_bool refl) (l, lp, omega arith, omega arith) (λ e. omega arith, λ e. omega arith, λ e. omega arith)
+facts (confirms l) = numbers (omega arith) refl (λ h. absurd_bool h refl) (λ _. omega arith) (l, omega arith, omega arith, omega arith) (λ e. omega arith, λ e. omega arith, λ e. omega arith)
+facts (leads votes pos) = numbers (omega arith) refl (λ h. absurd_bool h refl) (λ _. omega arith) (pos, pos, omega arith, omega arith) (λ e. omega arith, λ e. omega arith, λ e. omega arith)
+facts (leads adjusts pos) = numbers (omega arith) refl (λ h. absurd_bool h refl) (λ _. omega arith) (pos, pos, omega arith, omega arith) (λ e. omega arith, λ e. omega arith, λ e. omega arith)
+facts (first_heard votes {q} z l) = numbers (omega arith) refl (λ _. rw (ne_eqb q 0 (λ e. omega arith)) refl) (absurd_bool refl) (l, omega arith, omega arith, omega arith) (λ e. omega arith, λ e. omega arith, λ e. omega arith)
+facts (first_heard adjusts {q} z l) = numbers (omega arith) refl (λ _. rw (ne_eqb q 0 (λ e. omega arith)) refl) (absurd_bool refl) (l, omega arith, omega arith, omega arith) (λ e. omega arith, λ e. omega arith, λ e. omega arith)
+facts (turns votes z l) = numbers (omega arith) refl (λ h. absurd_bool h refl) (λ _. omega arith) (l, omega arith, omega arith, omega arith) (λ e. omega arith, λ e. omega arith, λ e. omega arith)
+facts (turns adjusts z l) = numbers (omega arith) refl (λ h. absurd_bool h refl) (λ _. omega arith) (l, omega arith, omega arith, omega arith) (λ e. omega arith, λ e. omega arith, λ e. omega arith)
+facts (heard votes {q} {p} d l z lp) = numbers (omega arith) refl (λ _. rw (ne_eqb q p d) refl) (absurd_bool refl) (l, lp, omega arith, omega arith) (λ e. omega arith, λ e. omega arith, λ e. omega arith)
+facts (heard adjusts {q} {p} d l z lp) = numbers (omega arith) refl (λ _. rw (ne_eqb q p d) refl) (absurd_bool refl) (l, lp, omega arith, omega arith) (λ e. omega arith, λ e. omega arith, λ e. omega arith)
+facts (closes votes l) = numbers (omega arith) refl (λ h. absurd_bool h refl) (λ _. omega arith) (l, omega arith, omega arith, omega arith) (λ e. omega arith, λ e. omega arith, λ e. omega arith)
+facts (closes adjusts l) = numbers (omega arith) refl (λ h. absurd_bool h refl) (λ _. omega arith) (l, omega arith, omega arith, omega arith) (λ e. omega arith, λ e. omega arith, λ e. omega arith)

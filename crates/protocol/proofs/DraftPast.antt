@@ -15,7 +15,7 @@ use Rattle.protocol.specs.Words.{has_sender}
 use Rattle.protocol.specs.Run.{Event, History, step_entry}
 use Rattle.protocol.specs.Premises.{takes, receives, took, received}
 use Rattle.protocol.specs.Draft.{Slot, round_order, draft_entry, is_receiver, deliveries, slot_entries, entries_from, draft_entries, slot_time}
-use Rattle.protocol.proofs.Tests.{absurd-bool, cases, and_left, and_right, and_both, or_first, or_second, or_cases, eqb_same, In, in_nothing, in_cons}
+use Rattle.protocol.proofs.Tests.{absurd_bool, cases, and_left, and_right, and_both, or_first, or_second, or_cases, eqb_same, In, in_nothing, in_cons}
 use Rattle.protocol.proofs.Moments.{Earlier, now, later, find, earlier_trans, earlier_in, any_grows, any_map}
 use Rattle.protocol.proofs.DraftRoom.{slot, order_length}
 use Rattle.protocol.proofs.DraftOrder.{At, Fit, acts, delivers, slot_at, slot_of, fits, in_slot, earliest, facts}
@@ -94,7 +94,7 @@ module _ (n begin spacing : ℕ) where
     its_action e same plain =
         let plain-too : has_sender a ≡ false = ap has_sender (sym action_is) ∙ plain in
         let head-is : x.head ≡ q = ap (λ (y : Slot). y.head) of_slot ∙ rw plain-too refl in
-        let no_sender_lem : eqb p 0 ≡ true = or_cases (has_sender a) (eqb p 0) (and_left (has_sender a || eqb p 0) _ (facts at).unused) (λ f. absurd-bool f plain-too) (λ z. z) in
+        let no_sender_lem : eqb p 0 ≡ true = or_cases (has_sender a) (eqb p 0) (and_left (has_sender a || eqb p 0) _ (facts at).unused) (λ f. absurd_bool f plain-too) (λ z. z) in
         rw same (and_both (and_both (eq-eqb x.head q head-is) (eq-eqb x.action a action_is)) (and_both (eq-eqb 0 p (sym (eqb-true p 0 no_sender_lem))) refl))
 
     its_delivery : (s : History) → has_sender x.action ≡ true → ((r : ℕ) → r < n → is_receiver x.action x.head r ≡ true → received x.action x.head 0 r s ≡ true) → received a p 0 q s ≡ true
@@ -157,7 +157,7 @@ module _ (n begin spacing : ℕ) where
             record {
               until = w.until;
               holds = w.holds;
-              got = λ v lo hi m. cases (eqb v q) (λ same. absurd-bool (subst (λ (v : ℕ). is_receiver a p v ≡ true) (eqb-true v q same) m) r) (λ other. w.got v (above v lo other) (omega arith) m);
+              got = λ v lo hi m. cases (eqb v q) (λ same. absurd_bool (subst (λ (v : ℕ). is_receiver a p v ≡ true) (eqb-true v q same) m) r) (λ other. w.got v (above v lo other) (omega arith) m);
             }
 
     record Reached (i : ℕ) (s : History) : Type 0 where

@@ -17,7 +17,7 @@ use Rattle.protocol.specs.Run.{Event, History, record_of}
 use Rattle.protocol.specs.Premises.{turning, delivery, closing, takes, receives, took, received, each, last_start, is_steady, correct_all, correct_takes, correct_closes, is_early}
 use Rattle.protocol.specs.Premises.{premise1, premise2, start_within, premise3, premise4, frames_reached, votes_reached, none_between, premise6, adjusts_reached, premise8}
 use Rattle.protocol.specs.Draft.{draft_entry, draft_entries, draft_setting, slot_time}
-use Rattle.protocol.proofs.Tests.{absurd-bool, cases, and_left, and_right, and_both, or_first, or_second, not_true, implies, not_is_true, below_all, count_all, In, first, next}
+use Rattle.protocol.proofs.Tests.{absurd_bool, cases, and_left, and_right, and_both, or_first, or_second, not_true, implies, not_is_true, below_all, count_all, In, first, next}
 use Rattle.protocol.proofs.Phases.{sent}
 use Rattle.protocol.proofs.DraftOrder.{above_0, opens, At, starts, start_heard, confirms, leads, first_heard, turns, heard, closes, earliest, earliest_close, facts}
 use Rattle.protocol.proofs.DraftPast.{event_of, history_after, Until, Before, limit_at, limit_low, by_entry, until_end, took_it, absent, not_yet}
@@ -46,7 +46,7 @@ all_steady e (d ∷ s) x h =
 -- the last start is one of those delivered
 last_start_lem : (h : History) (v q top : ℕ) → ((d : Event) → In d h → receives 2 v 0 q d ≡ true → d.entry.time.0 ≡ top) → received 2 v 0 q h ≡ true → last_start h v q ≡ top
 unfolding last_start
-last_start_lem [] v q top f h = absurd-bool h refl
+last_start_lem [] v q top f h = absurd_bool h refl
 last_start_lem (d ∷ s) v q top f h = go (receives 2 v 0 q d) refl h (last_start_lem s v q top (λ e i. f e (next i)))
   where
     go : (b : Bool) → receives 2 v 0 q d ≡ b → (receives 2 v 0 q d || received 2 v 0 q s) ≡ true → (received 2 v 0 q s ≡ true → last_start s v q ≡ top) → cond b d.entry.time.0 (last_start s v q) ≡ top

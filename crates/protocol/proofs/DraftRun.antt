@@ -18,8 +18,8 @@ use Rattle.protocol.specs.Step.{starts_held, is_closed, taken_as, take_action, a
 use Rattle.protocol.specs.Run.{Event, History, record_of, frame_sent, frame_of, is_frame, input_of, last_time, step_entry}
 use Rattle.protocol.specs.Premises.{turning, delivery, closing, takes, took, each, is_early}
 use Rattle.protocol.specs.Draft.{draft_entry, draft_entries, draft_setting, last_slot_time, slot_time}
-use Rattle.protocol.proofs.Tests.{absurd-bool, cases, cond_elim, and_left, and_right, and_both, or_first, or_second, or_neither, or_cases, not_is_false, count_all, In, first, next}
-use Rattle.protocol.proofs.Effects.{sending_of, prepared, send_same, none-is-some, no_number, some_number, act_accepted}
+use Rattle.protocol.proofs.Tests.{absurd_bool, cases, cond_elim, and_left, and_right, and_both, or_first, or_second, or_neither, or_cases, not_is_false, count_all, In, first, next}
+use Rattle.protocol.proofs.Effects.{sending_of, prepared, send_same, none_is_some, no_number, some_number, act_accepted}
 use Rattle.protocol.proofs.Valid.{Taken, Valid, start, more, taken_entry, base_of, by_head, record_at, record_other, of_effect, fixed, started_took, confirmed_took, turn_took, adjust_turned, closed_took}
 use Rattle.protocol.proofs.Ranges.{run_in_range}
 use Rattle.protocol.proofs.Phases.{held, sent, is_over, names, names_other, held_other, sent_other, Origin, own, reached, Turn, sends_none, sends_one, SendsOne, turn, frame_new, last_frame, held_sent, outranks_below, falls, delivered_choice}
@@ -56,7 +56,7 @@ module _ (g : Setting) where
 
     plain_start : Plain []
     unfolding record_of frame_sent fresh
-    plain_start = record { names_0 = λ p j c. none-is-some; one = none_sent k }
+    plain_start = record { names_0 = λ p j c. none_is_some; one = none_sent k }
       where
         none_sent : (k : Kind) (q : ℕ) → (phase_of k (fresh g.n g.f q)).sent ≤ 1
         none_sent votes q = omega arith
@@ -132,7 +132,7 @@ taken_accepted g e s h = go (step_entry g s true e.entry).verdict h
   where
     go : (v : Verdict) → is_accepted v ≡ true → v ≡ Accepted
     go Accepted h = refl
-    go (Refused c) h = absurd-bool h refl
+    go (Refused c) h = absurd_bool h refl
 
 -- OF A DRAFTED ROUND
 
@@ -151,7 +151,7 @@ module _ (n f begin spacing : ℕ) (two : 2 ≤ n) (small : n ≤ 16) (few : 2 *
     where
       go : (c : OptNumber) → held g votes s q ≡ c → is_number c ≡ false
       go NoNumber w = refl
-      go (SomeNumber c) w = absurd-bool (candidate_confirmed g small fit v q c w) (not_yet u 3 c (omega arith))
+      go (SomeNumber c) w = absurd_bool (candidate_confirmed g small fit v q c w) (not_yet u 3 c (omega arith))
 
   -- a head that was delivered head 0's frame has a choice
   heard_choice : (k : Kind) {i limit : ℕ} {s : History} → Until n begin spacing i limit s → Valid g s → (q : ℕ) → 0 < q → q < n → opens n k + 1 < i → limit ≤ shuts n k + q
@@ -170,12 +170,12 @@ module _ (n f begin spacing : ℕ) (two : 2 ≤ n) (small : n ≤ 16) (few : 2 *
 
   ran_none : Ran []
   unfolding record_of fresh each
-  ran_none = record { valid = start; taken = refl; plain = plain_start g; turned = λ k h. absurd-bool h refl; own_vote = λ c. none-is-some }
+  ran_none = record { valid = start; taken = refl; plain = plain_start g; turned = λ k h. absurd_bool h refl; own_vote = λ c. none_is_some }
 
   -- the adjust phase closes after the vote phase
   adjust_open : {s : History} → Valid g s → (q : ℕ) → q < n → (record_of g s q).vote.closed ≡ false → (record_of g s q).adjust.closed ≡ false
   adjust_open {s} v q l o =
-      cases (record_of g s q).adjust.closed (λ w. absurd-bool ((run_in_range fit v q l).marks.adjusting (or_second (record_of g s q).adjust.turn _ w)) o) (λ w. w)
+      cases (record_of g s q).adjust.closed (λ w. absurd_bool ((run_in_range fit v q l).marks.adjusting (or_second (record_of g s q).adjust.turn _ w)) o) (λ w. w)
 
   -- CAUSE 9
 
@@ -183,7 +183,7 @@ module _ (n f begin spacing : ℕ) (two : 2 ≤ n) (small : n ≤ 16) (few : 2 *
   vote_closed {s} v q h = closed_took g votes v q ∙ or_first (took 6 q s) _ h
 
   unturned : {s : History} → Valid g s → (q : ℕ) → took 7 q s ≡ false → (record_of g s q).adjust.turn ≡ false
-  unturned {s} v q h = cases (record_of g s q).adjust.turn (λ t. absurd-bool (adjust_turned g v q t) h) (λ t. t)
+  unturned {s} v q h = cases (record_of g s q).adjust.turn (λ t. absurd_bool (adjust_turned g v q t) h) (λ t. t)
 
   still_open : {s : History} → Valid g s → (q : ℕ) → took 9 q s ≡ false → is_early g adjusts s q ≡ false → (record_of g s q).adjust.closed ≡ false
   still_open v q h e = closed_took g adjusts v q ∙ or_neither h e
@@ -272,7 +272,7 @@ module _ (n f begin spacing : ℕ) (two : 2 ≤ n) (small : n ≤ 16) (few : 2 *
     after_first k d tu =
         cases (ltb (opens n k + 1) i) (ltb-true (opens n k + 1) i)
         (λ w. let le = ltb-false (opens n k + 1) i w in
-        absurd-bool (turn_taken k tu) (not_yet until_now (turning k) q (let eq = earliest_turn n q k in omega arith)))
+        absurd_bool (turn_taken k tu) (not_yet until_now (turning k) q (let eq = earliest_turn n q k in omega arith)))
       where
         turn_taken : (k : Kind) → (phase_of k (record_of g (event ∷ s) q)).turn ≡ true → took (turning k) q (event ∷ s) ≡ true
         turn_taken votes h = sym (turn_took g valid_now q) ∙ h
@@ -282,7 +282,7 @@ module _ (n f begin spacing : ℕ) (two : 2 ≤ n) (small : n ≤ 16) (few : 2 *
     follows k d tu o none = no_choice (delivered_choice g k small r.valid q (took_it u (first_heard k (omega arith) (facts at).head_below) (after_first k d tu)) o)
       where
         no_choice : (c : ℕ) × (held g k s q ≡ SomeNumber c) → ⊥
-        no_choice c = none-is-some (sym none ∙ c.1)
+        no_choice c = none_is_some (sym none ∙ c.1)
 
     plain_now : (k : Kind) → Plain g k (event ∷ s)
     plain_now k = plain_more g k t r.valid (follows k) (r.plain k)
@@ -340,7 +340,7 @@ module _ (n f begin spacing : ℕ) (two : 2 ≤ n) (small : n ≤ 16) (few : 2 *
 
     after_confirmed : (c : ℕ) → held g votes (event ∷ s) q ≡ SomeNumber c → 2 * n ≤ i
     after_confirmed c h =
-        cases (ltb i (2 * n)) (λ y. let lt = ltb-true i (2 * n) y in absurd-bool (candidate_confirmed g small fit valid_now q c h) (not_yet until_now 3 c (omega arith))) (ltb-false i (2 * n))
+        cases (ltb i (2 * n)) (λ y. let lt = ltb-true i (2 * n) y in absurd_bool (candidate_confirmed g small fit valid_now q c h) (not_yet until_now 3 c (omega arith))) (ltb-false i (2 * n))
 
     start_known : (c : ℕ) → held g votes (event ∷ s) q ≡ SomeNumber c → (record_of g s q).vote.closed ≡ false → is_reading (start_of (record_of g (event ∷ s) q) c) ≡ true
     start_known c h o =

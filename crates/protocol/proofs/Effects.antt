@@ -21,7 +21,7 @@ use Rattle.protocol.specs.Run.{is_delivered_by, carried_reading}
 pub use Rattle.protocol.specs.Record.{Kind, votes, adjusts, phase_of, latest_of}
 pub use Rattle.protocol.specs.Step.{number}
 pub use Rattle.protocol.specs.Premises.{delivery, closing}
-use Rattle.protocol.proofs.Tests.{absurd-bool, cond_elim, not_true, and_left, and_right, or_left, or_right}
+use Rattle.protocol.proofs.Tests.{absurd_bool, cond_elim, not_true, and_left, and_right, or_left, or_right}
 
 -- what each phase has of a sender
 abbrev pub taken_of : Kind → Sender → OptNumber
@@ -35,13 +35,13 @@ timed_action i = get_or (Look ∷ StartSent ∷ Look ∷ StartConfirmed ∷ Vote
 timed_action_lem : (a : Action) → has_sender (number a) ≡ false → a ≡ timed_action (number a)
 timed_action_lem Look e = refl
 timed_action_lem StartSent e = refl
-timed_action_lem (StartDelivered p) e = absurd-bool refl e
+timed_action_lem (StartDelivered p) e = absurd_bool refl e
 timed_action_lem StartConfirmed e = refl
 timed_action_lem VoteTurn e = refl
-timed_action_lem (VoteDelivered p k c x) e = absurd-bool refl e
+timed_action_lem (VoteDelivered p k c x) e = absurd_bool refl e
 timed_action_lem VoteClose e = refl
 timed_action_lem AdjustTurn e = refl
-timed_action_lem (AdjustDelivered p k c x) e = absurd-bool refl e
+timed_action_lem (AdjustDelivered p k c x) e = absurd_bool refl e
 timed_action_lem AdjustClose e = refl
 
 pub is_timed : (a : Action) (i : ℕ) → has_sender i ≡ false → number a ≡ i → a ≡ timed_action i
@@ -278,7 +278,7 @@ pub data Allowed (r : HeadRecord) (a : Action) : Sending → Type 0 where
 
 pub no_number : (m : OptNumber) → is_number m ≡ false → m ≡ NoNumber
 no_number NoNumber e = refl
-no_number (SomeNumber v) e = absurd-bool refl e
+no_number (SomeNumber v) e = absurd_bool refl e
 
 -- the rule after 2 and 4, at the record that the action prepared
 allowed_lead : (r m : HeadRecord) (a : Action) → m.vote.closed ≡ r.vote.closed → m.vote.choice ≡ r.vote.choice → m.vote.turn ≡ (prepared r a).vote.turn
@@ -326,11 +326,11 @@ allowed r AdjustTurn e =
 allowed r (AdjustDelivered p k c x) e = allowed_delivery adjusts r (AdjustDelivered p k c x) p k c (adjusting c x) refl refl (λ y. sends_adjust y (passed_on refl refl))
 allowed r AdjustClose e = sends_nothing
 
-pub none-is-some {ℓ} : {A : Type ℓ} {c : ℕ} → NoNumber ≡ SomeNumber c → A
-none-is-some e = absurd (let z : ◌≡◌ {A = ℕ} 0 1 = cc in omega arith)
+pub none_is_some {ℓ} : {A : Type ℓ} {c : ℕ} → NoNumber ≡ SomeNumber c → A
+none_is_some e = absurd (let z : ◌≡◌ {A = ℕ} 0 1 = cc in omega arith)
 
 pub some_number : (m : OptNumber) → is_number m ≡ true → (c : ℕ) × (m ≡ SomeNumber c)
-some_number NoNumber e = absurd-bool e refl
+some_number NoNumber e = absurd_bool e refl
 some_number (SomeNumber c) e = (c, refl)
 
 pub same_number_lem : {c v : ℕ} → SomeNumber c ≡ SomeNumber v → c ≡ v
@@ -338,13 +338,13 @@ same_number_lem e = cc
 
 -- a head that names one in a phase has a reason
 pub naming : (k : Kind) {r : HeadRecord} {a : Action} {x : Sending} {c : ℕ} → Allowed r a x → named_in k x ≡ SomeNumber c → Naming k r a c
-naming votes sends_nothing e = none-is-some e
-naming votes (sends_start s) e = none-is-some e
+naming votes sends_nothing e = none_is_some e
+naming votes (sends_start s) e = none_is_some e
 naming votes {r} {a} (sends_vote s) e = subst (Naming votes r a) (same_number_lem e) s
-naming votes (sends_adjust s t) e = none-is-some e
-naming adjusts sends_nothing e = none-is-some e
-naming adjusts (sends_start s) e = none-is-some e
-naming adjusts (sends_vote s) e = none-is-some e
+naming votes (sends_adjust s t) e = none_is_some e
+naming adjusts sends_nothing e = none_is_some e
+naming adjusts (sends_start s) e = none_is_some e
+naming adjusts (sends_vote s) e = none_is_some e
 naming adjusts {r} {a} (sends_adjust s t) e = subst (Naming adjusts r a) (same_number_lem e) s
 
 -- WHAT A RECORD KEEPS
@@ -522,8 +522,8 @@ early_spoken votes tested t e = and_right (is_under_way votes t.after) _ (and_ri
 early_spoken adjusts tested t e = and_right (is_under_way adjusts (close_early votes tested t.after)) _ (and_right tested _ e)
 
 pub both_name : (m c : OptNumber) → same_number m c ≡ true → (v : ℕ) × (m ≡ SomeNumber v) × (c ≡ SomeNumber v)
-both_name NoNumber c e = absurd-bool e refl
-both_name (SomeNumber v) NoNumber e = absurd-bool e refl
+both_name NoNumber c e = absurd_bool e refl
+both_name (SomeNumber v) NoNumber e = absurd_bool e refl
 both_name (SomeNumber v) (SomeNumber w) e = (v, refl, ap (λ (i : ℕ). SomeNumber i) (sym (eqb-true v w e)))
 
 -- an action is taken as itself, or as a look after the early close of its phase
@@ -548,7 +548,7 @@ taken_as_lem r AdjustClose = cond_elim (TakenAs r AdjustClose) r.adjust.early ad
 
 pub taken_turn : {r : HeadRecord} {b : Action} → TakenAs r AdjustTurn b → r.adjust.early ≡ false → b ≡ AdjustTurn
 taken_turn unspent e = refl
-taken_turn (adjust_turn_spent u) e = absurd-bool u e
+taken_turn (adjust_turn_spent u) e = absurd_bool u e
 
 -- it delivers what it was asked to deliver, and has the number that was asked unless that is 0, 6, 7 or 9
 pub taken_delivery : {r : HeadRecord} {a b : Action} → TakenAs r a b → delivery_in b ≡ delivery_in a
@@ -579,9 +579,9 @@ taken_adjust_turn (adjust_close_spent u) = refl
 
 pub asked_adjust_turn : {r : HeadRecord} {a b : Action} → TakenAs r a b → eqb (number b) 7 ≡ true → eqb (number a) 7 ≡ true
 asked_adjust_turn unspent e = e
-asked_adjust_turn (vote_close_spent u) e = absurd-bool e refl
+asked_adjust_turn (vote_close_spent u) e = absurd_bool e refl
 asked_adjust_turn (adjust_turn_spent u) e = refl
-asked_adjust_turn (adjust_close_spent u) e = absurd-bool e refl
+asked_adjust_turn (adjust_close_spent u) e = absurd_bool e refl
 
 -- a close that is passed over finds its phase closed early
 pub taken_close : (k : Kind) {r : HeadRecord} {a b : Action} → TakenAs r a b → (eqb (number b) (closing k) || (phase_of k r).early) ≡ (eqb (number a) (closing k) || (phase_of k r).early)
@@ -648,13 +648,13 @@ latest_said adjusts P (adjusting c x) m p h say = said m.senders m.own p _ (say 
     said l o p z new old = set_holds (λ q y. q ≡ p → P y.adjuster) l o z (λ e. new (sym e)) (λ q e. subst (λ (i : ℕ). P (get_or l i no_sender).adjuster) (sym e) old) p refl
 
 pub ignored_frame : (k : Kind) (r : HeadRecord) (p : ℕ) (x : Frame) → eqb (delivered_by x) (delivery k) ≡ true → ignored r p x ≡ passed_over k r p (serial_of x)
-ignored_frame votes r p NoFrame e = absurd-bool e refl
-ignored_frame votes r p Start e = absurd-bool e refl
+ignored_frame votes r p NoFrame e = absurd_bool e refl
+ignored_frame votes r p Start e = absurd_bool e refl
 ignored_frame votes r p (Vote j c x) e = refl
-ignored_frame votes r p (Adjust j c x) e = absurd-bool e refl
-ignored_frame adjusts r p NoFrame e = absurd-bool e refl
-ignored_frame adjusts r p Start e = absurd-bool e refl
-ignored_frame adjusts r p (Vote j c x) e = absurd-bool e refl
+ignored_frame votes r p (Adjust j c x) e = absurd_bool e refl
+ignored_frame adjusts r p NoFrame e = absurd_bool e refl
+ignored_frame adjusts r p Start e = absurd_bool e refl
+ignored_frame adjusts r p (Vote j c x) e = absurd_bool e refl
 ignored_frame adjusts r p (Adjust j c x) e = refl
 
 -- a frame that is not passed over and names a higher rank is followed by one that names the same
@@ -663,20 +663,20 @@ sends_if k b o x t u = rw (t, u) refl
 
 pub delivered_sending : (k : Kind) (r : HeadRecord) (a : Action) (c : ℕ) → number a ≡ delivery k → named (delivery_in a).frame ≡ SomeNumber c
     → passed_over k r (delivery_in a).sender (serial_of (delivery_in a).frame) ≡ false → outranks c (phase_of k r).choice ≡ true → named_in k (sending_of r a) ≡ SomeNumber c
-delivered_sending k r Look c nu na t u = none-is-some na
-delivered_sending k r StartSent c nu na t u = none-is-some na
-delivered_sending k r (StartDelivered p) c nu na t u = none-is-some na
-delivered_sending k r StartConfirmed c nu na t u = none-is-some na
-delivered_sending k r VoteTurn c nu na t u = none-is-some na
+delivered_sending k r Look c nu na t u = none_is_some na
+delivered_sending k r StartSent c nu na t u = none_is_some na
+delivered_sending k r (StartDelivered p) c nu na t u = none_is_some na
+delivered_sending k r StartConfirmed c nu na t u = none_is_some na
+delivered_sending k r VoteTurn c nu na t u = none_is_some na
 delivered_sending votes r (VoteDelivered p j w x) c nu na t u =
     sends_if votes (passed_over votes r p j) (outranks w r.vote.choice) (voting w) t (rw (same_number_lem na) u) ∙ na
 delivered_sending adjusts r (VoteDelivered p j w x) c nu na t u = absurd (omega arith)
-delivered_sending k r VoteClose c nu na t u = none-is-some na
-delivered_sending k r AdjustTurn c nu na t u = none-is-some na
+delivered_sending k r VoteClose c nu na t u = none_is_some na
+delivered_sending k r AdjustTurn c nu na t u = none_is_some na
 delivered_sending votes r (AdjustDelivered p j w x) c nu na t u = absurd (omega arith)
 delivered_sending adjusts r (AdjustDelivered p j w x) c nu na t u =
     sends_if adjusts (passed_over adjusts r p j) (outranks w r.adjust.choice) (adjusting w x) t (rw (same_number_lem na) u) ∙ na
-delivered_sending k r AdjustClose c nu na t u = none-is-some na
+delivered_sending k r AdjustClose c nu na t u = none_is_some na
 
 -- A HEAD'S OWN VOTE READING
 
@@ -707,7 +707,7 @@ pub own_unsent : (x : Sending) (m : HeadRecord) → named_in votes x ≡ NoNumbe
 unfolding adjust
 own_unsent nothing m e = refl
 own_unsent start m e = refl
-own_unsent (voting c) m e = none-is-some (sym e)
+own_unsent (voting c) m e = none_is_some (sym e)
 own_unsent (adjusting c x) m e = set_keeps (λ z. z.vote) m.senders m.own m.own _ refl
 
 -- what a head keeps of itself after its vote
@@ -717,12 +717,12 @@ own_voted c m b = get_or-set_same (drop_others c m).senders m.own _ no_sender (r
 
 pub own_sent : (x : Sending) (m : HeadRecord) (c : ℕ) → m.own < length m.senders → named_in votes x ≡ SomeNumber c → vote_of (send x m).after m.own ≡ start_of (send x m).after c
 unfolding vote
-own_sent nothing m c b e = none-is-some e
-own_sent start m c b e = none-is-some e
+own_sent nothing m c b e = none_is_some e
+own_sent start m c b e = none_is_some e
 own_sent (voting w) m c b e =
     subst (λ (z : ℕ). vote_of (vote w m).after m.own ≡ start_of (vote w m).after z) (same_number_lem e)
     (ap (λ (z : Sender). z.vote) (own_voted w m b) ∙ sym (send_keeps (λ k. k.start) (λ k y d a. refl) (voting w) m w))
-own_sent (adjusting w x) m c b e = none-is-some e
+own_sent (adjusting w x) m c b e = none_is_some e
 
 -- a start is sent once
 pub start_once : (r : HeadRecord) (a : Action) → number a ≡ 1 → is_closed r a ≡ false → r.started ≡ false

@@ -17,7 +17,7 @@ use Rattle.protocol.specs.Words.{most_words, bits, kind_of, setting_of, is_corre
 use Rattle.protocol.specs.Step.{input_fits}
 use Rattle.protocol.specs.Causes.{sheet_verdict}
 use Rattle.protocol.specs.Program.{big_endian, bytes_verdict}
-use Rattle.protocol.proofs.Tests.{absurd-bool, cases, cond_elim, not_false, and_left, and_right, parts, or_left, or_right, or_cases}
+use Rattle.protocol.proofs.Tests.{absurd_bool, cases, cond_elim, not_false, and_left, and_right, parts, or_left, or_right, or_cases}
 
 -- "big-endian words": the byte of the highest bits comes first
 pub word_of_bytes : (w : ℕ) (l : List ℕ) → big_endian (w / 2 ^ 24 ∷ w / 2 ^ 16 % 2 ^ 8 ∷ w / 2 ^ 8 % 2 ^ 8 ∷ w % 2 ^ 8 ∷ l) ≡ w ∷ big_endian l
@@ -93,12 +93,12 @@ pub record UnusedZero (a p k : ℕ) : Type 0 where
   pub serial : a ≢ 5 → a ≢ 8 → k ≡ 0
 
 no_serial : (a : ℕ) (b : Bool) → (has_serial a || b) ≡ true → a ≢ 5 → a ≢ 8 → b ≡ true
-no_serial a b t y z = or_cases (has_serial a) b t (λ u. absurd-bool u (rw (ne_eqb a 5 y, ne_eqb a 8 z) refl)) (λ v. v)
+no_serial a b t y z = or_cases (has_serial a) b t (λ u. absurd_bool u (rw (ne_eqb a 5 y, ne_eqb a 8 z) refl)) (λ v. v)
 
 unused_zero : (a p k : ℕ) → zero_where_unused a p k ≡ true → UnusedZero a p k
 unused_zero a p k t =
     record {
-      sender = λ x y z. or_cases (has_sender a) (eqb p 0) (search parts) (λ v. absurd-bool v (rw (ne_eqb a 2 x, ne_eqb a 5 y, ne_eqb a 8 z) refl)) (eqb-true p 0);
+      sender = λ x y z. or_cases (has_sender a) (eqb p 0) (search parts) (λ v. absurd_bool v (rw (ne_eqb a 2 x, ne_eqb a 5 y, ne_eqb a 8 z) refl)) (eqb-true p 0);
       serial = λ y z. eqb-true k 0 (no_serial a (eqb k 0) (search parts) y z);
     }
 
@@ -147,7 +147,7 @@ unfolding input_fits
 input_fits_lem n i e =
     let carries : (has_serial i.action || (eqb i.choice 0 && eqb i.carried 0)) ≡ true = search parts depth 9 in
     let marked : (not i.none || (eqb i.action 5 && eqb i.carried 0)) ≡ true = search parts depth 9 in
-    let none : i.none ≡ true → (eqb i.action 5 && eqb i.carried 0) ≡ true = λ h. or_cases (not i.none) _ marked (λ u. absurd-bool u (rw h refl)) (λ v. v) in
+    let none : i.none ≡ true → (eqb i.action 5 && eqb i.carried 0) ≡ true = λ h. or_cases (not i.none) _ marked (λ u. absurd_bool u (rw h refl)) (λ v. v) in
     record {
       action = leb-true _ _ (search parts);
       sender = ltb-true _ _ (search parts);

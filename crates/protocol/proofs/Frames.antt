@@ -21,8 +21,8 @@ use Rattle.protocol.specs.Words.{setting_at}
 use Rattle.protocol.specs.Record.{fresh}
 use Rattle.protocol.specs.Step.{with_last, vote, adjust, is_closed}
 use Rattle.protocol.specs.Run.{Event, History, record_of, frame_sent, is_delivered_by, is_frame, delivered_by, frames_sent, ran, run_sheet}
-use Rattle.protocol.proofs.Tests.{absurd-bool, cases, eqb_same, count_some, some_count}
-use Rattle.protocol.proofs.Effects.{Kind, votes, adjusts, phase_of, delivery, number, prepared, Sending, nothing, voting, adjusting, send, sending_of, answer, send_marks, none-is-some, same_number_lem, phase_last, closed_last, start_once}
+use Rattle.protocol.proofs.Tests.{absurd_bool, cases, eqb_same, count_some, some_count}
+use Rattle.protocol.proofs.Effects.{Kind, votes, adjusts, phase_of, delivery, number, prepared, Sending, nothing, voting, adjusting, send, sending_of, answer, send_marks, none_is_some, same_number_lem, phase_last, closed_last, start_once}
 use Rattle.protocol.proofs.Effects as Effects
 use Rattle.protocol.proofs.Valid.{base_of, Taken, Valid, start, more, accepted_sheet, record_at, record_other, by_head, of_effect}
 use Rattle.protocol.proofs.Runs.{start_frame}
@@ -107,7 +107,7 @@ is_for c NoNumber = false
 is_for c (SomeNumber v) = eqb v c
 
 for_it : (c : ℕ) (m : OptNumber) → is_for c m ≡ true → m ≡ SomeNumber c
-for_it c NoNumber e = absurd-bool e refl
+for_it c NoNumber e = absurd_bool e refl
 for_it c (SomeNumber v) e = ap (λ (w : ℕ). SomeNumber w) (eqb-true v c e)
 
 none_sent : (k : Kind) (n f q : ℕ) → (phase_of k (fresh n f q)).sent ≡ 0
@@ -132,7 +132,7 @@ module _ (g : Setting) (k : Kind) where
       → ((s : History) (e : Event) → Taken g s e → Valid g s → ((p c : ℕ) → SentFor s p c → P s p c) → (z : SendsOne g k s e) → P (e ∷ s) e.entry.head z.choice)
       → {s : History} → Valid g s → (p c : ℕ) → SentFor s p c → P s p c
   unfolding frame_sent
-  every_sending P keep new start p c = λ x. none-is-some x.1
+  every_sending P keep new start p c = λ x. none_is_some x.1
   every_sending P keep new (more {e = e} {s = s} t v) p c =
       let old : (p c : ℕ) → SentFor s p c → P s p c = every_sending P keep new v in
       by_head (λ p. SentFor (e ∷ s) p c → P (e ∷ s) p c) e p
@@ -169,7 +169,7 @@ module _ (g : Setting) (k : Kind) where
       (λ d h x. (x.0, sym (names_other g k e s p x.0 d) ∙ x.1))
     where
       go : {c : ℕ} → held g k s e.entry.head ≡ SomeNumber w → Origin g k s e c → c ≡ e.entry.head → SentFor s e.entry.head e.entry.head
-      go h (own o none tu) eq = none-is-some (sym none ∙ h)
+      go h (own o none tu) eq = none_is_some (sym none ∙ h)
       go h (reached a na) eq = sent_itself v e.entry.sender e.entry.head (e.entry.serial, na ∙ ap (λ (q : ℕ). SomeNumber q) eq)
 
   -- a head that has named itself has named none above it

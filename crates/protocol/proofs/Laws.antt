@@ -23,9 +23,9 @@ use Rattle.protocol.specs.Step.{with_last, keep_vote, keep_adjust, kept_for, dro
 use Rattle.protocol.specs.Run.{Event, History, record_of}
 use Rattle.protocol.specs.Results.{if_adopted, outcome_word, adjustment_word, start_word, frames_word, head_words}
 use Rattle.protocol.specs.Premises.{closing, each, is_steady, correct_takes, correct_closes, premise2, premise5, none_between, premise6, premise7, premise8}
-use Rattle.protocol.proofs.Tests.{absurd-bool, cases, cond_elim, not_true, not_false, not_is_false, and_left, and_right, and_both, and_false, all_below_lem, below_all, or_left, or_right, or_cases, or_first, or_second, implied, eqb_same, all_in}
+use Rattle.protocol.proofs.Tests.{absurd_bool, cases, cond_elim, not_true, not_false, not_is_false, and_left, and_right, and_both, and_false, all_below_lem, below_all, or_left, or_right, or_cases, or_first, or_second, implied, eqb_same, all_in}
 use Rattle.protocol.proofs.Moments.{Earlier, earlier_in, each_at}
-use Rattle.protocol.proofs.Effects.{Kind, votes, adjusts, phase_of, latest_of, voting, prepared, sending_of, effect_split, send_same, kept_for_at, send_keeps, act_accepted, both_name, none-is-some, own_voted}
+use Rattle.protocol.proofs.Effects.{Kind, votes, adjusts, phase_of, latest_of, voting, prepared, sending_of, effect_split, send_same, kept_for_at, send_keeps, act_accepted, both_name, none_is_some, own_voted}
 use Rattle.protocol.proofs.Valid.{Valid, Taken}
 use Rattle.protocol.proofs.Ranges.{in_range}
 use Rattle.protocol.proofs.Phases.{close_by_entry}
@@ -48,14 +48,14 @@ module _ (phase : Phase) (last : OptNumber) (k c : ℕ) (r taken : HeadRecord) (
   pub no_effect_after_close : phase.closed ≡ true → delivered phase last k c r taken adopt ≡ silent r
   unfolding delivered
   no_effect_after_close e =
-      cond_elim (λ t. t ≡ silent r) (phase.closed || not (is_above k last)) (λ _. refl) (λ t. absurd-bool e (or_left phase.closed _ t))
+      cond_elim (λ t. t ≡ silent r) (phase.closed || not (is_above k last)) (λ _. refl) (λ t. absurd_bool e (or_left phase.closed _ t))
 
   -- ".. or if the serial isn't above the last taken from that sender"
   pub no_effect_of_old_serial : (j : ℕ) → last ≡ SomeNumber j → k ≤ j → delivered phase last k c r taken adopt ≡ silent r
   unfolding delivered
   no_effect_of_old_serial j e h =
       cond_elim (λ t. t ≡ silent r) (phase.closed || not (is_above k last)) (λ _. refl)
-      (λ t. absurd-bool (not_false (or_right phase.closed _ t)) (ap (is_above k) e ∙ not_above k j h))
+      (λ t. absurd_bool (not_false (or_right phase.closed _ t)) (ap (is_above k) e ∙ not_above k j h))
 
   -- "Otherwise" it is taken, and adopted if its choice outranks the one held
   taken_or_adopted : (P : Stepped → Type 0) → phase.closed ≡ false → Above k last
@@ -63,7 +63,7 @@ module _ (phase : Phase) (last : OptNumber) (k c : ℕ) (r taken : HeadRecord) (
       → P (delivered phase last k c r taken adopt)
   unfolding delivered
   taken_or_adopted P o a f g =
-      cond_elim P (phase.closed || not (is_above k last)) (λ t. absurd-bool t (rw (o, is_above_lem k last a) refl))
+      cond_elim P (phase.closed || not (is_above k last)) (λ t. absurd_bool t (rw (o, is_above_lem k last a) refl))
       (λ _. cond_elim P (outranks c phase.choice) f g)
 
   -- "a carried one of higher rank (lower number)": of the number held and the number carried, the lower is held after
@@ -104,14 +104,14 @@ leads_with_more_than_f r e =
 -- 2: "No effect after the adjust close"
 pub no_start_after_close : (r : HeadRecord) (p : ℕ) → r.adjust.closed ≡ true → effect r (StartDelivered p) ≡ silent r
 unfolding effect
-no_start_after_close r p e = cond_elim (λ t. t ≡ silent r) r.adjust.closed (λ _. refl) (λ t. absurd-bool e t)
+no_start_after_close r p e = cond_elim (λ t. t ≡ silent r) r.adjust.closed (λ _. refl) (λ t. absurd_bool e t)
 
 -- 2: "its start reading becomes this reading, again at each repeat": whatever was kept before
 pub start_replaced : (r : HeadRecord) (p : ℕ) → p < length r.senders → r.adjust.closed ≡ false
     → start_of (effect r (StartDelivered p)).after p ≡ SomeReading r.last
 unfolding effect
 start_replaced r p h o =
-    cond_elim (λ (t : Stepped). start_of t.after p ≡ SomeReading r.last) r.adjust.closed (λ t. absurd-bool t o)
+    cond_elim (λ (t : Stepped). start_of t.after p ≡ SomeReading r.last) r.adjust.closed (λ t. absurd_bool t o)
     (λ _. lead_keeps_starts _ p ∙ ap (λ (k : Sender). k.start) (get_or-set_same r.senders p _ no_sender h))
 
 -- "A reading of 0 is a reading": a start reading is held, whatever it is
@@ -263,13 +263,13 @@ outcome_1 : (r : HeadRecord) → r.adjust.closed ≡ true → (is_reading (chose
 unfolding outcome
 outcome_1 r c lacks =
     cond_elim (λ o. o ≡ 1) r.adjust.closed
-    (λ _. cond_elim (λ o. o ≡ 1) (is_reading (chosen_start r) && is_number r.adjust.choice) (λ t. absurd (lacks t)) (λ _. refl)) (λ t. absurd-bool c t)
+    (λ _. cond_elim (λ o. o ≡ 1) (is_reading (chosen_start r) && is_number r.adjust.choice) (λ t. absurd (lacks t)) (λ _. refl)) (λ t. absurd_bool c t)
 
 pub outcome_1_without_start : (r : HeadRecord) → r.adjust.closed ≡ true → chosen_start r ≡ NoReading → outcome r ≡ 1
-outcome_1_without_start r c e = outcome_1 r c (λ t. absurd-bool (and_left (is_reading (chosen_start r)) _ t) (ap is_reading e))
+outcome_1_without_start r c e = outcome_1 r c (λ t. absurd_bool (and_left (is_reading (chosen_start r)) _ t) (ap is_reading e))
 
 pub outcome_1_without_adjuster : (r : HeadRecord) → r.adjust.closed ≡ true → r.adjust.choice ≡ NoNumber → outcome r ≡ 1
-outcome_1_without_adjuster r c e = outcome_1 r c (λ t. absurd-bool (and_right (is_reading (chosen_start r)) _ t) (ap is_number e))
+outcome_1_without_adjuster r c e = outcome_1 r c (λ t. absurd_bool (and_right (is_reading (chosen_start r)) _ t) (ap is_number e))
 
 -- "All fields but kind, outcome and head are zero unless the outcome is 2", but those of the fourth word, "set whatever the outcome"
 pub words_unless_adopted : (q : ℕ) (r : HeadRecord) → outcome r ≢ 2
@@ -340,7 +340,7 @@ module _ (k : Kind) (r : HeadRecord) where
 
   -- no candidate, or no adjuster: never
   pub no_early_close_without_choice : 0 < r.n → choice ≡ NoNumber → may_close k r ≡ false
-  no_early_close_without_choice l e = cases (may_close k r) (λ t. none-is-some (sym e ∙ (closes_only_when_all_have_spoken t 0 l).2)) (λ t. t)
+  no_early_close_without_choice l e = cases (may_close k r) (λ t. none_is_some (sym e ∙ (closes_only_when_all_have_spoken t 0 l).2)) (λ t. t)
 
 -- "but never before its vote close"
 pub no_early_adjust_close_before_vote_close : (r : HeadRecord) → r.vote.closed ≡ false → may_close adjusts r ≡ false
@@ -383,21 +383,21 @@ untested {r} (old_adjust {k = k} j e h) = rw (e, not_above k j h) (not_is_false 
 
 passed_over : {P : Type 0} (phase : Phase) (last : OptNumber) (k : ℕ) → not (is_passed_over phase last k) ≡ false
     → (phase.closed ≡ true → P) → ((j : ℕ) → last ≡ SomeNumber j → k ≤ j → P) → P
-passed_over phase NoNumber k e late old = or_cases phase.closed _ (not_false e) late (λ u. absurd-bool u refl)
+passed_over phase NoNumber k e late old = or_cases phase.closed _ (not_false e) late (λ u. absurd_bool u refl)
 passed_over phase (SomeNumber j) k e late old = or_cases phase.closed _ (not_false e) late (λ u. old j refl (ltb-false j k (not_true u)))
 
 pub tested_unless_without_effect : (r : HeadRecord) (a : Action) → is_tested r a ≡ false → WithoutEffect r a
 unfolding is_tested
 tested_unless_without_effect r Look e = look
-tested_unless_without_effect r StartSent e = absurd-bool refl e
+tested_unless_without_effect r StartSent e = absurd_bool refl e
 tested_unless_without_effect r (StartDelivered p) e = late_start (not_false e)
-tested_unless_without_effect r StartConfirmed e = absurd-bool refl e
-tested_unless_without_effect r VoteTurn e = absurd-bool refl e
+tested_unless_without_effect r StartConfirmed e = absurd_bool refl e
+tested_unless_without_effect r VoteTurn e = absurd_bool refl e
 tested_unless_without_effect r (VoteDelivered p k c x) e = passed_over r.vote (kept_of r p).voted k e late_vote old_vote
-tested_unless_without_effect r VoteClose e = absurd-bool refl e
-tested_unless_without_effect r AdjustTurn e = absurd-bool refl e
+tested_unless_without_effect r VoteClose e = absurd_bool refl e
+tested_unless_without_effect r AdjustTurn e = absurd_bool refl e
 tested_unless_without_effect r (AdjustDelivered p k a x) e = passed_over r.adjust (kept_of r p).adjusted k e late_adjust old_adjust
-tested_unless_without_effect r AdjustClose e = absurd-bool refl e
+tested_unless_without_effect r AdjustClose e = absurd_bool refl e
 
 pub without_effect : {r : HeadRecord} {a : Action} → WithoutEffect r a → act r a ≡ silent r
 unfolding act effect

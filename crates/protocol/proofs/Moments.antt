@@ -5,7 +5,7 @@ use mathlib.Core.List.{[], ◌∷◌, ◌++◌}
 use Rattle.protocol.specs.Base.{any}
 use Rattle.protocol.specs.Run.{Event, History}
 use Rattle.protocol.specs.Premises.{before, each}
-use Rattle.protocol.proofs.Tests.{absurd-bool, and_left, and_right, or_cases, or_first, or_second, In, first, next}
+use Rattle.protocol.proofs.Tests.{absurd_bool, and_left, and_right, or_cases, or_first, or_second, In, first, next}
 
 -- s is the history at some moment of h; Earlier (e ∷ s) h: e is an event of h, and s came before it
 pub data Earlier (s : History) : History → Type 0 where
@@ -47,7 +47,7 @@ pub record FoundIn (p : Event → Bool) (h : History) : Type 0 where
   pub holds : p event ≡ true
 
 pub find : (p : Event → Bool) (h : History) → any p h ≡ true → FoundIn p h
-find p [] e = absurd-bool e refl
+find p [] e = absurd_bool e refl
 find p (d ∷ h) e =
     or_cases (p d) (any p h) e (λ t. record { event = d; past = h; there = now; holds = t })
     (λ t. let r = find p h t in record { event = r.event; past = r.past; there = later r.there; holds = r.holds })
@@ -61,7 +61,7 @@ pub record FoundAfter (p : Event → Bool) (m h : History) : Type 0 where
   pub holds : p event ≡ true
 
 pub find_after : (p : Event → Bool) {m h : History} → Earlier m h → any p h ≡ true → any p m ≡ false → FoundAfter p m h
-find_after p now t u = absurd-bool t u
+find_after p now t u = absurd_bool t u
 find_after p (later {e = d} {h = h} x) t u =
     or_cases (p d) (any p h) t (λ z. record { event = d; past = h; there = now; since = x; holds = z })
     (λ z. let r = find_after p x z u in record { event = r.event; past = r.past; there = later r.there; since = r.since; holds = r.holds })
@@ -75,13 +75,13 @@ pub record First (p : Event → Bool) (h : History) : Type 0 where
 
 pub first_of : (p : Event → Bool) (h : History) → any p h ≡ true → First p h
 unfolding before
-first_of p [] e = absurd-bool e refl
+first_of p [] e = absurd_bool e refl
 first_of p (d ∷ h) e = go (any p h) refl (first_of p h) (p d) refl
   where
     go : (b : Bool) → any p h ≡ b → (any p h ≡ true → First p h) → (c : Bool) → p d ≡ c → First p (d ∷ h)
     go true t ih c u = let r = ih t in record { event = r.event; there = rw t (later r.there); holds = r.holds; none_before = rw t r.none_before }
     go false t ih true u = record { event = d; there = rw (t, u) now; holds = u; none_before = rw (t, u) t }
-    go false t ih false u = absurd-bool e (rw (u, t) refl)
+    go false t ih false u = absurd_bool e (rw (u, t) refl)
 
 pub each_at : (t : Event → History → Bool) {e : Event} {s h : History} → each t h ≡ true → Earlier (e ∷ s) h → t e s ≡ true
 unfolding each

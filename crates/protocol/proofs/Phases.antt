@@ -20,9 +20,9 @@ use Rattle.protocol.specs.Step.{early_if, is_above, outranks, is_closed}
 use Rattle.protocol.specs.Run.{Event, History, record_of, is_delivered_by, or_else, frame_sent, frame_of, is_frame}
 use Rattle.protocol.specs.Premises.{takes, receives, received, correct_closes, is_early}
 use Rattle.protocol.specs.Premises as Premises
-use Rattle.protocol.proofs.Tests.{absurd-bool, cases, and_left, and_right, and_both, or_first, or_second, or_right, or_cases, not_true, not_false, eqb_same, and_false}
+use Rattle.protocol.proofs.Tests.{absurd_bool, cases, and_left, and_right, and_both, or_first, or_second, or_right, or_cases, not_true, not_false, eqb_same, and_false}
 use Rattle.protocol.proofs.Moments.{Earlier, now, later, any_grows, find}
-use Rattle.protocol.proofs.Effects.{Kind, votes, adjusts, phase_of, taken_of, delivery, closing, number, is_timed, delivery_in, delivered_by, serial_of, named, named_by, taken, passed_over, ignored, Delivery, prepared, Sending, sending_of, named_in, chosen_by, named_under, prepared_choice, prepared_sent, phase_last, chosen_turn, named_after, allowed, naming, Why, itself, told, none-is-some, same_number_lem, closed_last, closes_early, answer_phase, answer_closed, answer_early, taken_close, close_open, Unsaid, taken_after, ignored_frame, delivered_sending}
+use Rattle.protocol.proofs.Effects.{Kind, votes, adjusts, phase_of, taken_of, delivery, closing, number, is_timed, delivery_in, delivered_by, serial_of, named, named_by, taken, passed_over, ignored, Delivery, prepared, Sending, sending_of, named_in, chosen_by, named_under, prepared_choice, prepared_sent, phase_last, chosen_turn, named_after, allowed, naming, Why, itself, told, none_is_some, same_number_lem, closed_last, closes_early, answer_phase, answer_closed, answer_early, taken_close, close_open, Unsaid, taken_after, ignored_frame, delivered_sending}
 use Rattle.protocol.proofs.Valid.{base_of, Taken, Valid, start, more, frame_fits, record_at, record_other, by_head, delivery_at, is_delivery, delivers, of_effect, fixed, closed_took, kept_next, kept_at}
 
 -- the first of two that is there
@@ -41,7 +41,7 @@ no_start adjusts j = refl
 
 named_or : (k : Kind) (j : ℕ) (x y : Frame) → (is_frame x ≡ true → is_delivered_by (delivery k) j x ≡ true) → named (or_else x y) ≡ or_number (named x) (named y)
 named_or k j NoFrame y f = refl
-named_or k j Start y f = absurd-bool (f refl) (no_start k j)
+named_or k j Start y f = absurd_bool (f refl) (no_start k j)
 named_or k j (Vote i c x) y f = refl
 named_or k j (Adjust i c x) y f = refl
 
@@ -65,7 +65,7 @@ above_taken j NoNumber e = omega arith
 above_taken j (SomeNumber i) e = ltb-true i j e
 
 below_taken : (j : ℕ) (m : OptNumber) → is_above j m ≡ false → j < taken m
-below_taken j NoNumber e = absurd-bool refl e
+below_taken j NoNumber e = absurd_bool refl e
 below_taken j (SomeNumber i) e = let z = ltb-false i j e in omega arith
 
 suc_of : (m : ℕ) {j : ℕ} → j < m → (i : ℕ) × (m ≡ suc i)
@@ -89,12 +89,12 @@ named_frame k (Adjust j c x) e = (c, refl)
 
 -- who outranks a choice has a lower number
 pub outranks_below : (c : ℕ) (m : OptNumber) (w : ℕ) → outranks c m ≡ true → m ≡ SomeNumber w → c < w
-outranks_below c NoNumber w o e = none-is-some e
+outranks_below c NoNumber w o e = none_is_some e
 outranks_below c (SomeNumber v) w o e = let eq = same_number_lem e in let lt = ltb-true c v o in omega arith
 
 -- a choice that is not outranked is there, and at most the number
 not_outranked : (c : ℕ) (m : OptNumber) → outranks c m ≡ false → (w : ℕ) × (m ≡ SomeNumber w) × (w ≤ c)
-not_outranked c NoNumber e = absurd-bool refl e
+not_outranked c NoNumber e = absurd_bool refl e
 not_outranked c (SomeNumber w) e = (w, refl, ltb-false c w e)
 
 module _ (g : Setting) (k : Kind) where
@@ -222,7 +222,7 @@ module _ (g : Setting) (k : Kind) where
       (λ d h. ap (λ (r : HeadRecord). (phase_of k r).closed) (record_other g e s q d) ∙ h)
 
   pub was_open : {s : History} {e : Event} → Taken g s e → Valid g s → (q : ℕ) → is_over (e ∷ s) q ≡ false → is_over s q ≡ false
-  was_open {s} t v q o = cases (is_over s q) (λ u. absurd-bool (over_stays t v q u) o) (λ u. u)
+  was_open {s} t v q o = cases (is_over s q) (λ u. absurd_bool (over_stays t v q u) o) (λ u. u)
 
   pub over_later : {s h : History} → Earlier s h → Valid g h → (q : ℕ) → is_over s q ≡ true → is_over h q ≡ true
   over_later now v q o = o
@@ -260,7 +260,7 @@ module _ (g : Setting) (k : Kind) where
       found_open u =
           let asked : eqb (number t.asks) (closing k) ≡ true = eq-eqb _ _ (t.asked.number_is ∙ a) in
           let same = taken_close k t.as_action in
-          let nu : eqb (number t.action) (closing k) ≡ true = or_cases (eqb (number t.action) (closing k)) (is_early g k s q) (same ∙ or_first (eqb (number t.asks) (closing k)) _ asked) (λ w. w) (λ w. absurd-bool w u) in
+          let nu : eqb (number t.action) (closing k) ≡ true = or_cases (eqb (number t.action) (closing k)) (is_early g k s q) (same ∙ or_first (eqb (number t.asks) (closing k)) _ asked) (λ w. w) (λ w. absurd_bool w u) in
           let is = is_timed t.action (closing k) (no_sender_lem k) (eqb-true _ _ nu) in
           let o = close_open k (base_of g s e) (subst (λ (i : Action). is_closed (base_of g s e) i ≡ false) is (closed_last _ _ t.action ∙ t.is_open)) in (
             ap (λ (p : Phase). p.closed) (sym (phase_last k (record_of g s q) e.entry.reading)) ∙ o.0 ∙ sym u,
@@ -281,7 +281,7 @@ module _ (g : Setting) (k : Kind) where
   pub took_close : {s : History} → Valid g s → (q : ℕ) → is_correct g q ≡ true → is_early g k s q ≡ false → Premises.took (closing k) q s ≡ true → any (correct_closes g k) s ≡ true
   took_close {s} v q c o t =
       let f = find (takes (closing k) q) s t in
-      let open-then = cases (is_early g k (f.event ∷ f.past) q) (λ u. absurd-bool (early_later f.there v q u) o) (λ u. u) in
+      let open-then = cases (is_early g k (f.event ∷ f.past) q) (λ u. absurd_bool (early_later f.there v q u) o) (λ u. u) in
       any_grows (correct_closes g k) f.there (or_first (correct_closes g k f.event) _ (is_close_lem f.event f.past q c f.holds open-then))
 
   -- a closed phase keeps its choice
@@ -292,7 +292,7 @@ module _ (g : Setting) (k : Kind) where
     where
       go : Turn h e → is_over h e.entry.head ≡ true → held (e ∷ h) e.entry.head ≡ held h e.entry.head
       go (sends_none z) o = z.held_same
-      go (sends_one z) o = absurd-bool o z.was_open
+      go (sends_one z) o = absurd_bool o z.was_open
 
   -- who has a choice chose it at an event that found the phase open
   pub record ChosenAt (h : History) (q c : ℕ) : Type 0 where
@@ -307,8 +307,8 @@ module _ (g : Setting) (k : Kind) where
   chosen_at start q c = λ h. absurd (nobody_chosen k h)
     where
       nobody_chosen : (k : Kind) → (phase_of k (fresh g.n g.f q)).choice ≡ SomeNumber c → ⊥
-      nobody_chosen votes h = none-is-some h
-      nobody_chosen adjusts h = none-is-some h
+      nobody_chosen votes h = none_is_some h
+      nobody_chosen adjusts h = none_is_some h
   chosen_at (more {e = e} {s = s} t v) q c =
       by_head (λ q. held (e ∷ s) q ≡ SomeNumber c → ChosenAt (e ∷ s) q c) e q (go (turn t v) (chosen_at v e.entry.head c))
       (λ d h. on (chosen_at v q c (sym (held_other e s q d) ∙ h)))
@@ -436,14 +436,14 @@ module _ (g : Setting) (k : Kind) where
       old_serial tb ti f o =
           below_taken e.entry.serial (taken_of k (kept_of r p))
           (or_cases (phase_of k r).closed (not (is_above (serial_of x) (taken_of k (kept_of r e.entry.sender)))) (sym (ignored_frame k r e.entry.sender x tb) ∙ ti)
-          (λ z. absurd-bool z (ap (λ (y : Phase). y.closed) (phase_last k (record_of g s e.entry.head) e.entry.reading) ∙ o))
+          (λ z. absurd_bool z (ap (λ (y : Phase). y.closed) (phase_last k (record_of g s e.entry.head) e.entry.reading) ∙ o))
           (λ z. subst (λ (q : ℕ). is_above e.entry.serial (taken_of k (kept_of r q)) ≡ false) f
           (subst (λ (j : ℕ). is_above j (taken_of k (kept_of r e.entry.sender)) ≡ false) t.asked.serial_is (not_true z))))
 
       go : (b : Bool) → eqb (delivered_by x) (delivery k) ≡ b → (d : Bool) → eqb e.entry.sender p ≡ d → (i : Bool) → ignored r e.entry.sender x ≡ i → Hearing s e p
-      go b tb false td i ti = passed (record { last_same = untaken (and_false (not (ignored r e.entry.sender x)) (eqb e.entry.sender p) td); old = λ a f o. absurd-bool (eq-eqb e.entry.sender p f) td })
-      go false tb true td true ti = passed (record { last_same = untaken (rw ti refl); old = λ a f o. absurd-bool (frame_of_phase t a) tb })
-      go false tb true td false ti = passed (record { last_same = ap taken (kept false tb td ti); old = λ a f o. absurd-bool (frame_of_phase t a) tb })
+      go b tb false td i ti = passed (record { last_same = untaken (and_false (not (ignored r e.entry.sender x)) (eqb e.entry.sender p) td); old = λ a f o. absurd_bool (eq-eqb e.entry.sender p f) td })
+      go false tb true td true ti = passed (record { last_same = untaken (rw ti refl); old = λ a f o. absurd_bool (frame_of_phase t a) tb })
+      go false tb true td false ti = passed (record { last_same = ap taken (kept false tb td ti); old = λ a f o. absurd_bool (frame_of_phase t a) tb })
       go true tb true td true ti = passed (record { last_same = untaken (rw ti refl); old = λ a f o. old_serial tb ti (eqb-true e.entry.sender p td) o })
       go true tb true td false ti =
           took (took_frame t v p (phase_of_frame t tb) (eqb-true e.entry.sender p td) (sym (ignored_frame k r e.entry.sender x tb) ∙ ti)
@@ -460,7 +460,7 @@ module _ (g : Setting) (k : Kind) where
       go : (m : OptNumber) → names s e.entry.head j ≡ m → (b : Bool) → eqb (sent s e.entry.head) j ≡ b → or_number m (cond b (SomeNumber z.choice) NoNumber) ≡ SomeNumber c → P j c
       go (SomeNumber w) u b ub x = old j c (u ∙ x)
       go NoNumber u true ub x = subst (λ (i : ℕ). P i c) (eqb-true _ j ub) (subst (P (sent s e.entry.head)) (same_number_lem x) (new z))
-      go NoNumber u false ub x = none-is-some x
+      go NoNumber u false ub x = none_is_some x
 
   -- a frame sent under a serial never changes
   pub frame_stays : {s : History} {e : Event} → Taken g s e → Valid g s → (p j c : ℕ) → names s p j ≡ SomeNumber c → names (e ∷ s) p j ≡ SomeNumber c
@@ -469,7 +469,7 @@ module _ (g : Setting) (k : Kind) where
   -- serials count a head's frames from 0
   pub serial_below : {s : History} → Valid g s → (p j c : ℕ) → names s p j ≡ SomeNumber c → j < sent s p
   unfolding frame_sent
-  serial_below start p j c = none-is-some
+  serial_below start p j c = none_is_some
   serial_below (more {e = e} {s = s} t v) p j c =
       by_head (λ p. names (e ∷ s) p j ≡ SomeNumber c → j < sent (e ∷ s) p) e p
       (frame_new (λ j c. j < sent (e ∷ s) e.entry.head) (turn t v) (λ j c h. sent_grows (turn t v) (serial_below v e.entry.head j c h))
@@ -518,8 +518,8 @@ module _ (g : Setting) (k : Kind) where
   held_sent start p c = λ h. absurd (none_held k h)
     where
       none_held : (k : Kind) → (phase_of k (fresh g.n g.f p)).choice ≡ SomeNumber c → ⊥
-      none_held votes h = none-is-some h
-      none_held adjusts h = none-is-some h
+      none_held votes h = none_is_some h
+      none_held adjusts h = none_is_some h
   held_sent (more {e = e} {s = s} t v) p c =
       by_head (λ p. held (e ∷ s) p ≡ SomeNumber c → (j : ℕ) × (sent (e ∷ s) p ≡ suc j)) e p (go (turn t v) (held_sent v e.entry.head c))
       (λ d h. let b = held_sent v p c (sym (held_other e s p d) ∙ h) in (b.0, sent_other e s p d ∙ b.1))
@@ -583,7 +583,7 @@ module _ (g : Setting) (k : Kind) where
 
   -- a frame that reached q while its phase was open is not above the last serial taken
   pub reached_taken : {s : History} → g.n ≤ 16 → Valid g s → (q p j : ℕ) → received (delivery k) p j q s ≡ true → is_over s q ≡ false → j < last_taken s q p
-  reached_taken small start q p j = λ h o. absurd-bool h refl
+  reached_taken small start q p j = λ h o. absurd_bool h refl
   reached_taken small (more {e = e} {s = s} t v) q p j =
       by_head (λ q. received (delivery k) p j q (e ∷ s) ≡ true → is_over (e ∷ s) q ≡ false → j < last_taken (e ∷ s) q p) e q
       (λ h o. or_cases (receives (delivery k) p j e.entry.head e) _ h (λ y. new (hears t v small p) (still_open o) y)

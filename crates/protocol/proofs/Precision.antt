@@ -16,7 +16,7 @@ use Rattle.protocol.specs.Record.{start_of}
 use Rattle.protocol.specs.Run.{Event, History, record_of}
 use Rattle.protocol.specs.Premises.{takes, receives, took, correct_takes, premise3, is_steady, last_start, start_within}
 use Rattle.protocol.specs.Claim.{CorrectHead, apart}
-use Rattle.protocol.proofs.Tests.{absurd-bool, cases, and_left, and_right, and_both, implied, not_true}
+use Rattle.protocol.proofs.Tests.{absurd_bool, cases, and_left, and_right, and_both, implied, not_true}
 use Rattle.protocol.proofs.Signed.{difference_of, difference_pos, difference_add, difference_sub, difference_abs}
 use Rattle.protocol.proofs.Moments.{Earlier, now, later, earlier_past, any_grows, each_at}
 use Rattle.protocol.proofs.Laws.{any_two_entries_steady}
@@ -73,7 +73,7 @@ module _ {g : Setting} {h : History} (r : Round g h) where
       (λ u. let taken = and_left (takes 2 q e) _ u in
       let from : e.entry.sender ≡ c = eqb-true _ c (and_left (eqb e.entry.sender c) _ (and_right (takes 2 q e) _ u)) in
       let at-correct : correct_takes g 2 e ≡ true = and_both (ap (is_correct g) (eqb-true _ q (and_left (eqb e.entry.head q) _ taken)) ∙ cq.marked_correct) (and_right (eqb e.entry.head q) _ taken) in
-      absurd-bool t (subst (λ (v : ℕ). took 3 v s ≡ false) from
+      absurd_bool t (subst (λ (v : ℕ). took 3 v s ≡ false) from
       (not_true (implied (correct_takes g 2 e) _ (and_right (eqb e.entry.action 3 ⇒ start_within g e.entry.head s) _ (each_at _ r.p3 x)) at-correct))))
       (λ u. u)
 

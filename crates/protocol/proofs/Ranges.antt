@@ -23,11 +23,11 @@ use Rattle.protocol.specs.Words.{heads_fit}
 use Rattle.protocol.specs.Record.{is_reading, is_number, reading_or0, number_or0, reading, no_sender, kept_of, start_of, vote_of, fresh, reading_in_range, serial_in_range, name_in_range, sender_in_range, sender_is_none, same_number, reading_counts, sent_in_range, phase_in_range, marks_in_range, record_in_range}
 use Rattle.protocol.specs.Step.{with_vote_reading, with_candidate, with_adjuster, with_last, keep_vote, kept_for, drop_others, accepted, vote, adjust, prepend, vote_readings, outranks, candidate_after, effect, is_closed, may_close, close_early, concluded, is_tested, act, taken_as, take_action, actions_of, action_of, input_fits, step}
 use Rattle.protocol.specs.Run.{History, record_of, is_delivered_by, or_else, frame_sent, carried_reading}
-use Rattle.protocol.proofs.Tests.{absurd-bool, cases, cond_elim, not_true, not_false, parts, and_left, and_right, and_both, or_left, or_right, or_first, or_second, or_cases, implied, implies, all_below_lem, below_all}
+use Rattle.protocol.proofs.Tests.{absurd_bool, cases, cond_elim, not_true, not_false, parts, and_left, and_right, and_both, or_left, or_right, or_first, or_second, or_cases, implied, implies, all_below_lem, below_all}
 use Rattle.protocol.proofs.Ranks.{every_at}
 pub use Rattle.protocol.proofs.Ranks.{Every}
 use Rattle.protocol.proofs.Medians.{median_below}
-use Rattle.protocol.proofs.Effects.{Kind, votes, adjusts, phase_of, taken_of, latest_of, number, passed_over, named_in, sending_of, column_kept, set_keeps, kept_for_at, Delivery, no_delivery, delivery_in, serial_of, named, set_holds, ignored, kept_after, prepared, Sending, nothing, voting, adjusting, send, effect_split, Why, itself, told, Naming, Source, computed, passed_on, Allowed, sends_nothing, sends_start, sends_vote, sends_adjust, no_number, allowed, none-is-some, closed_last, early_now, taken_as_lem, taken_delivery}
+use Rattle.protocol.proofs.Effects.{Kind, votes, adjusts, phase_of, taken_of, latest_of, number, passed_over, named_in, sending_of, column_kept, set_keeps, kept_for_at, Delivery, no_delivery, delivery_in, serial_of, named, set_holds, ignored, kept_after, prepared, Sending, nothing, voting, adjusting, send, effect_split, Why, itself, told, Naming, Source, computed, passed_on, Allowed, sends_nothing, sends_start, sends_vote, sends_adjust, no_number, allowed, none_is_some, closed_last, early_now, taken_as_lem, taken_delivery}
 use Rattle.protocol.proofs.Effects as Effects
 use Rattle.protocol.proofs.Valid.{base_of, Valid, start, more, heads_fit_lem, record_at, record_other, by_head, delivery_at, fixed}
 
@@ -115,7 +115,7 @@ name_test n h (SomeNumber c) = refl
 
 no_reading : (x : OptReading) → is_reading x ≡ false → x ≡ NoReading
 no_reading NoReading e = refl
-no_reading (SomeReading x) e = absurd-bool refl e
+no_reading (SomeReading x) e = absurd_bool refl e
 
 sender_in_range_lem : (n : ℕ) → 0 < n → {s : Sender} → sender_in_range n s ≡ true → SenderInRange n s
 unfolding sender_in_range
@@ -181,7 +181,7 @@ in_range {r} e =
       own = ltb-true _ _ (search parts);
       last = ltb-true _ _ (search parts);
       adjustment = ltb-true _ _ (search parts);
-      unadjusted = λ u. or_cases (is_number r.adjust.choice) (eqb r.adjustment.0 0) (search parts) (λ t. absurd-bool t (rw u refl)) (eqb-true _ 0);
+      unadjusted = λ u. or_cases (is_number r.adjust.choice) (eqb r.adjustment.0 0) (search parts) (λ t. absurd_bool t (rw u refl)) (eqb-true _ 0);
       phase = for_both _ (sent_in_range_lem r.n r.vote.choice r.vote.sent (search parts depth 9)) (sent_in_range_lem r.n r.adjust.choice r.adjust.sent (search parts depth 9));
       early = for_both _ (implied r.vote.early _ (search parts depth 9)) (implied r.adjust.early _ (search parts depth 9));
       marks = record { confirmed = implied r.confirmed _ (search parts depth 9); turn = implied r.vote.turn _ (search parts depth 10); adjusting = implied (r.adjust.turn || r.adjust.closed) _ (search parts depth 10) };
@@ -281,7 +281,7 @@ counted_prepared r (VoteDelivered p k c x) h e = go (passed_over votes r p k) (o
     go : (b o : Bool) → outranks c held ≡ o → named_in votes (cond b nothing (cond o (voting c) nothing)) ≡ NoNumber
         → (q : ℕ) → q < r.n → q ≢ r.own → fits_for held (get_or (cond b r.senders (set r.senders p (kept_after r p (Vote k c x)))) q no_sender) ≡ true
     go true o t u = h
-    go false true t u = none-is-some (sym u)
+    go false true t u = none_is_some (sym u)
     go false false t u =
         set_holds (λ q z. q < r.n → q ≢ r.own → fits_for held z ≡ true) r.senders p _
         (λ _ _. subst (λ (v : OptNumber). fits_for held (kept_for v (keep_vote (kept_of r p) k c x)) ≡ true) (sym (stays_candidate c held t)) (kept_for_counts held (keep_vote (kept_of r p) k c x))) h
@@ -351,7 +351,7 @@ module _ {r : HeadRecord} (a : Action) (h : InRange r) (i : ActionInRange r.n a)
       let mine : SenderInRange r.n (with_adjuster (kept_of (prepared r a) r.own) c) =
       record { start = own.start; vote = own.vote; serial = for_both _ (own.serial votes) (own.serial adjusts); latest = for_both _ (own.latest votes) (omega arith) } in
       let kept = set_in_range (prepared r a).senders r.own _ h.own mine prepared_kept in
-      (record { heads = h.heads; own = h.own; last = h.last; adjustment = below; unadjusted = λ e. none-is-some (sym e); phase = for_both _ (h.phase votes) new; early = for_both _ (prepared_early votes) (prepared_early adjusts); marks = prepared_marks r a o h.marks; kept = kept; counted = counted }, omega arith)
+      (record { heads = h.heads; own = h.own; last = h.last; adjustment = below; unadjusted = λ e. none_is_some (sym e); phase = for_both _ (h.phase votes) new; early = for_both _ (prepared_early votes) (prepared_early adjusts); marks = prepared_marks r a o h.marks; kept = kept; counted = counted }, omega arith)
 
   pub effect_in_range : AnswerInRange r.n (effect r a)
   effect_in_range = subst (AnswerInRange r.n) (sym (effect_split r a)) (send_in_range (allowed r a o) (counted_effect r a h.counted))

@@ -15,9 +15,9 @@ use Rattle.protocol.specs.Words.{is_correct}
 use Rattle.protocol.specs.Run.{Event, History, record_of}
 use Rattle.protocol.specs.Premises.{takes, took, received, before, correct_all, correct_takes, correct_closes, premise1, premise2, premise3, premise4, premise5, premise6, premise7, premise8, premises, frames_reached, votes_reached, adjusts_reached, none_between, first_broken, is_early}
 use Rattle.protocol.specs.Claim.{CorrectHead}
-use Rattle.protocol.proofs.Tests.{absurd-bool, cases, and_left, and_right, and_both, or_first, or_second, or_cases, implied, not_true, eqb_same, all_below_lem, count_some, some_count}
+use Rattle.protocol.proofs.Tests.{absurd_bool, cases, and_left, and_right, and_both, or_first, or_second, or_cases, implied, not_true, eqb_same, all_below_lem, count_some, some_count}
 use Rattle.protocol.proofs.Moments.{Earlier, now, later, earlier_trans, earlier_past, any_grows, First, first_of, find_after, each_at}
-use Rattle.protocol.proofs.Effects.{Kind, votes, adjusts, delivery, closing, none-is-some, same_number_lem}
+use Rattle.protocol.proofs.Effects.{Kind, votes, adjusts, delivery, closing, none_is_some, same_number_lem}
 use Rattle.protocol.proofs.Valid.{Valid, valid_past, valid_taken, valid_earlier, Taken, Sheet, by_head, closed_took}
 use Rattle.protocol.proofs.Phases.{held, sent, is_over, held_other, early_later, is_close_lem, took_close, Origin, own, reached, Turn, sends_none, sends_one, SendsOne, turn, agree}
 use Rattle.protocol.proofs.Spoken.{all_hold, early_unanimous}
@@ -115,14 +115,14 @@ module _ {g : Setting} {h : History} (r : Round g h) (k : Kind) where
 -- THE PHASE IS CLOSED BY ENTRIES ALONE
 module _ {g : Setting} {h : History} (r : Round g h) (k : Kind) (late : Late r k) where
   pub never_early : {s : History} → Earlier s h → (q : ℕ) → q < g.n → is_early g k s q ≡ false
-  never_early {s} x q l = cases (is_early g k s q) (λ u. absurd-bool (early_later g k x r.sheet.valid q u) (late q l)) (λ u. u)
+  never_early {s} x q l = cases (is_early g k s q) (λ u. absurd_bool (early_later g k x r.sheet.valid q u) (late q l)) (λ u. u)
 
   -- so a close that a correct head has taken is one
   took_it : {s : History} {q : ℕ} → Earlier s h → CorrectHead g q → took (closing k) q s ≡ true → any (is_close r k) s ≡ true
   took_it {q = q} x c = took_close g k (valid_earlier x r.sheet.valid) q c.marked_correct (never_early x q c.is_head)
 
   takes_close : {q : ℕ} → CorrectHead g q → took (closing k) q h ≡ true
-  takes_close {q} c = or_cases (took (closing k) q h) (is_early g k h q) (closes r k c) (λ u. u) (λ u. absurd-bool u (late q c.is_head))
+  takes_close {q} c = or_cases (took (closing k) q h) (is_early g k h q) (closes r k c) (λ u. u) (λ u. absurd_bool u (late q c.is_head))
 
   pub has_close : any (is_close r k) h ≡ true
   has_close = let x = some_correct r in took_it now x.1 (takes_close x.1)
@@ -139,7 +139,7 @@ module _ {g : Setting} {h : History} (r : Round g h) (k : Kind) (late : Late r k
   -- until then no correct head has closed
   none_closed : {s : History} → Earlier s (moment r k) → {q : ℕ} → CorrectHead g q → took (closing k) q s ≡ false
   none_closed {s} x {q} c =
-      cases (took (closing k) q s) (λ t. absurd-bool (any_grows (is_close r k) x (took_it (earlier_trans x moment_earlier) c t)) first_close.none_before) (λ t. t)
+      cases (took (closing k) q s) (λ t. absurd_bool (any_grows (is_close r k) x (took_it (earlier_trans x moment_earlier) c t)) first_close.none_before) (λ t. t)
 
   pub still_open : {s : History} → Earlier s (moment r k) → {q : ℕ} → CorrectHead g q → is_over g k s q ≡ false
   still_open {s} x {q} c =
@@ -176,7 +176,7 @@ module _ {g : Setting} {h : History} (r : Round g h) where
       let s = moment r adjusts in
       let e = correct_at (λ p. (took 7 p s || (record_of g s p).adjust.early) && frames_reached g 8 (record_of g s p).adjust.sent s p) (implied (any (correct_closes g adjusts) h) _ r.p7 (has_close r adjusts late)) c in (
         or_cases (took 7 q s) (record_of g s q).adjust.early (and_left (took 7 q s || (record_of g s q).adjust.early) _ e) (λ u. u)
-            (λ u. absurd-bool u (never_early r adjusts late (moment_earlier r adjusts late) q c.is_head)),
+            (λ u. absurd_bool u (never_early r adjusts late (moment_earlier r adjusts late) q c.is_head)),
         and_right (took 7 q s || (record_of g s q).adjust.early) _ e,
       )
 
@@ -214,7 +214,7 @@ module _ {g : Setting} {h : History} (r : Round g h) (k : Kind) (late : Late r k
       let closing-it = is_close_lem g k b.event b.past e.entry.head c.marked_correct b.holds (never_early r k late b.there e.entry.head c.is_head) in
       let inner = implied (is_close r k b.event) _ (each_at _ none_between_lem b.there) closing-it in
       let here = implied (correct_takes g (delivery k) e) _ (each_at _ inner b.since) (and_both c.marked_correct (eq-eqb _ _ a)) in
-      absurd-bool begun (not_true here))
+      absurd_bool begun (not_true here))
 
   -- (c) A CHOICE THAT EVERY CORRECT HEAD HAS AT THE FIRST CLOSE STAYS
   module _ (has : (q : ℕ) → CorrectHead g q → (c : ℕ) × (held g k (moment r k) q ≡ SomeNumber c)) where
@@ -239,8 +239,8 @@ module _ {g : Setting} {h : History} (r : Round g h) (k : Kind) (late : Late r k
         (λ d c. held_other g k e s q d ∙ z q c)
       where
         silent : (x : SendsOne g k s e) → CorrectHead g e.entry.head → Origin g k s e x.choice → ⊥
-        silent x c (own is none tu) = none-is-some (sym none ∙ z e.entry.head c)
-        silent x c (reached a n) = absurd-bool (finds c a) x.was_open
+        silent x c (own is none tu) = none_is_some (sym none ∙ z e.entry.head c)
+        silent x c (reached a n) = absurd_bool (finds c a) x.was_open
 
         go : CorrectHead g e.entry.head → Turn g k s e → held g k (e ∷ s) e.entry.head ≡ SomeNumber chosen
         go c (sends_none x) = x.held_same ∙ z e.entry.head c
@@ -275,5 +275,5 @@ module _ {g : Setting} {h : History} (r : Round g h) (k : Kind) where
       (λ t. let e = count_some g.n (is_early g k h) (ltb-true 0 _ t) in
       let u = early_unanimous g k r.sheet.at_most_16 r.sheet.valid e.0 e.2 in
       record { choice = u.0; holds = λ {q} c. all_hold g k r.sheet.valid u.1 q c.is_head })
-      (λ t. let late : Late r k = λ q l. cases (is_early g k h q) (λ u. absurd-bool (lt-ltb 0 _ (some_count g.n (is_early g k h) q l u)) t) (λ u. u) in
+      (λ t. let late : Late r k = λ q l. cases (is_early g k h q) (λ u. absurd_bool (lt-ltb 0 _ (some_count g.n (is_early g k h) q l u)) t) (λ u. u) in
       record { choice = chosen r k late (has late); holds = λ {q} c. settled_end r k late (has late) q c })

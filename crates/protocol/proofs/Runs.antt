@@ -14,7 +14,7 @@ use Rattle.protocol.specs.Words.{has_sender, setting_at, place_of, entry_at, ent
 use Rattle.protocol.specs.Record.{is_number, fresh}
 use Rattle.protocol.specs.Step.{with_last, vote, adjust, may_lead, may_adjust, outranks, act, taken_as, is_closed, take_action, action_of}
 use Rattle.protocol.specs.Run.{Event, History, record_of, is_delivered_by, or_else, frame_sent, frame_of, is_frame, input_of, last_time, step_entry, stopped, ran, and_then, run_of}
-use Rattle.protocol.proofs.Tests.{absurd-bool, cases, cond_elim, eqb_same}
+use Rattle.protocol.proofs.Tests.{absurd_bool, cases, cond_elim, eqb_same}
 use Rattle.protocol.proofs.Effects.{Kind, votes, adjusts, phase_of, delivery, number, named, some_number, passed_over, prepared, Sending, nothing, voting, adjusting, send, sending_of, prepared_sent, phase_last}
 use Rattle.protocol.proofs.Effects as Effects
 use Rattle.protocol.proofs.Fits.{not_accepted}
@@ -94,10 +94,10 @@ start_frame r m a k = go a
     go AdjustClose = refl
 
 is_start : (x : Frame) (k : ℕ) → is_delivered_by 2 k x ≡ true → x ≡ Start
-is_start NoFrame k e = absurd-bool e refl
+is_start NoFrame k e = absurd_bool e refl
 is_start Start k e = refl
-is_start (Vote j c y) k e = absurd-bool e refl
-is_start (Adjust j c y) k e = absurd-bool e refl
+is_start (Vote j c y) k e = absurd_bool e refl
+is_start (Adjust j c y) k e = absurd_bool e refl
 
 module _ (g : Setting) where
   not_started : (p : ℕ) → (record_of g [] p).started ≡ false
@@ -142,7 +142,7 @@ module _ (g : Setting) (k : Kind) where
       (λ d h. ap is_number (names_other g k e s p j d) ∙ named_below v p j (subst (λ (i : ℕ). j < i) (sent_other g k e s p d) h))
     where
       kept : (m n : OptNumber) → is_number m ≡ true → is_number (or_number m n) ≡ true
-      kept NoNumber n h = absurd-bool h refl
+      kept NoNumber n h = absurd_bool h refl
       kept (SomeNumber c) n h = refl
 
       added : (m : OptNumber) (c : ℕ) → is_number (or_number m (SomeNumber c)) ≡ true
@@ -161,7 +161,7 @@ module _ (g : Setting) (k : Kind) where
   -- a frame of the phase names somebody
   named_frame : (j : ℕ) (x : Frame) → (is_frame x ≡ true → is_delivered_by (delivery k) j x ≡ true) → is_number (named x) ≡ is_frame x
   named_frame j NoFrame h = refl
-  named_frame j Start h = absurd-bool (h refl) (no_start k)
+  named_frame j Start h = absurd_bool (h refl) (no_start k)
     where
       no_start : (k : Kind) → is_delivered_by (delivery k) j Start ≡ false
       no_start votes = refl
@@ -174,7 +174,7 @@ module _ (g : Setting) (k : Kind) where
   sent_below {s} v p j =
       cases (is_number (names g k s p j))
       (λ t. let c = some_number (names g k s p j) t in lt-ltb j (sent g k s p) (serial_below g k v p j c.0 c.1) ∙ sym t)
-      (λ t. cases (ltb j (sent g k s p)) (λ u. absurd-bool (named_below v p j (ltb-true j (sent g k s p) u)) t) (λ u. u ∙ sym t))
+      (λ t. cases (ltb j (sent g k s p)) (λ u. absurd_bool (named_below v p j (ltb-true j (sent g k s p) u)) t) (λ u. u ∙ sym t))
       ∙ named_frame j (frame_sent s (delivery k) p j) (frame_fits s (delivery k) p j)
 
   -- a frame's serial is the number of frames sent before
@@ -183,13 +183,13 @@ module _ (g : Setting) (k : Kind) where
   serial_counts x m j = go k x
     where
       go : (k : Kind) (x : Sending) → is_delivered_by (delivery k) j (send x m).frame ≡ true → (phase_of k m).sent ≡ j
-      go votes nothing h = absurd-bool h refl
-      go votes Effects.start h = absurd-bool h refl
+      go votes nothing h = absurd_bool h refl
+      go votes Effects.start h = absurd_bool h refl
       go votes (voting c) h = eqb-true _ j h
-      go votes (adjusting c y) h = absurd-bool h refl
-      go adjusts nothing h = absurd-bool h refl
-      go adjusts Effects.start h = absurd-bool h refl
-      go adjusts (voting c) h = absurd-bool h refl
+      go votes (adjusting c y) h = absurd_bool h refl
+      go adjusts nothing h = absurd_bool h refl
+      go adjusts Effects.start h = absurd_bool h refl
+      go adjusts (voting c) h = absurd_bool h refl
       go adjusts (adjusting c y) h = eqb-true _ j h
 
   -- so the frame that an event sends under it is the first
@@ -203,9 +203,9 @@ module _ (g : Setting) (k : Kind) where
 
   none_or_else : (x y : Frame) → is_frame x ≡ false → or_else x y ≡ y
   none_or_else NoFrame y h = refl
-  none_or_else Start y h = absurd-bool refl h
-  none_or_else (Vote j c x) y h = absurd-bool refl h
-  none_or_else (Adjust j c x) y h = absurd-bool refl h
+  none_or_else Start y h = absurd_bool refl h
+  none_or_else (Vote j c x) y h = absurd_bool refl h
+  none_or_else (Adjust j c x) y h = absurd_bool refl h
 
   pub sent_now : {s : History} {e : Event} → Taken g s e → Valid g s → (j : ℕ) → is_delivered_by (delivery k) j e.frame ≡ true
       → frame_sent (e ∷ s) (delivery k) e.entry.head j ≡ e.frame

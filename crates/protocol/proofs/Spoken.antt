@@ -17,8 +17,8 @@ use Rattle.protocol.specs.Record.{no_sender, kept_of, same_number, fresh}
 use Rattle.protocol.specs.Step.{all_spoken, is_tested}
 use Rattle.protocol.specs.Run.{Event, History, record_of, frame_sent, frame_of}
 use Rattle.protocol.specs.Premises.{took, is_early}
-use Rattle.protocol.proofs.Tests.{absurd-bool, cases, or_cases, eqb_same, all_below_lem}
-use Rattle.protocol.proofs.Effects.{Kind, votes, adjusts, phase_of, latest_of, delivery, closing, named, delivered_by, ignored, kept_after, kept_after_lem, send, named_in, early_spoken, both_name, latest_after, latest_said, none-is-some, same_number_lem}
+use Rattle.protocol.proofs.Tests.{absurd_bool, cases, or_cases, eqb_same, all_below_lem}
+use Rattle.protocol.proofs.Effects.{Kind, votes, adjusts, phase_of, latest_of, delivery, closing, named, delivered_by, ignored, kept_after, kept_after_lem, send, named_in, early_spoken, both_name, latest_after, latest_said, none_is_some, same_number_lem}
 use Rattle.protocol.proofs.Valid.{base_of, Taken, Valid, start, more, record_at, record_other, by_head, delivery_at, of_effect, fixed, closed_took}
 use Rattle.protocol.proofs.Phases.{held, sent, names, no_senders, names_at, unsent, phase_of_frame, held_sent, last_frame, sending_at, prepared_at, closes_early_at, early_at_lem, delivered_choice}
 use Rattle.protocol.proofs.Frames.{SentFor, sent_stays, sent_at_most, sender_below, sent_itself, own_first}
@@ -53,8 +53,8 @@ module _ (g : Setting) (k : Kind) where
     latest_sent start q p c = λ h. absurd (nothing_kept k h)
       where
         nothing_kept : (k : Kind) → latest_of k (get_or (replicate 16 no_sender) p no_sender) ≡ SomeNumber c → ⊥
-        nothing_kept votes h = none-is-some (subst (λ (y : Sender). y.candidate ≡ SomeNumber c) (no_senders 16 p) h)
-        nothing_kept adjusts h = none-is-some (subst (λ (y : Sender). y.adjuster ≡ SomeNumber c) (no_senders 16 p) h)
+        nothing_kept votes h = none_is_some (subst (λ (y : Sender). y.candidate ≡ SomeNumber c) (no_senders 16 p) h)
+        nothing_kept adjusts h = none_is_some (subst (λ (y : Sender). y.adjuster ≡ SomeNumber c) (no_senders 16 p) h)
     latest_sent (more {e = e} {s = s} t v) q p c =
         by_head (λ q. latest_of k (kept_of (record_of g (e ∷ s) q) p) ≡ SomeNumber c → SentFor g k (e ∷ s) p c) e q
         (at_head (λ i. latest_sent v e.entry.head p c i))
@@ -107,8 +107,8 @@ module _ (g : Setting) (k : Kind) where
     early_unanimous start q = λ h. absurd (nobody_early k h)
       where
         nobody_early : (k : Kind) → (phase_of k (fresh g.n g.f q)).early ≡ true → ⊥
-        nobody_early votes h = absurd-bool h refl
-        nobody_early adjusts h = absurd-bool h refl
+        nobody_early votes h = absurd_bool h refl
+        nobody_early adjusts h = absurd_bool h refl
     early_unanimous (more {e = e} {s = s} t w) q =
         by_head (λ q. is_early g k (e ∷ s) q ≡ true → (v : ℕ) × Unanimous (e ∷ s) v) e q
         (λ h. or_cases (closes_early_at g k t) (is_early g k s e.entry.head) (sym (early_at_lem g k t) ∙ h) (λ u. spoken (names_all u)) (λ u. still (early_unanimous w e.entry.head u)))
@@ -149,7 +149,7 @@ module _ (g : Setting) (k : Kind) where
 
     -- and one without a choice has not
     pub none_early : {s : History} → Valid g s → (q : ℕ) → q < g.n → held g k s q ≡ NoNumber → is_early g k s q ≡ false
-    none_early {s} w q l u = cases (is_early g k s q) (λ t. none-is-some (sym u ∙ (early_holds w q l t).1)) (λ t. t)
+    none_early {s} w q l u = cases (is_early g k s q) (λ t. none_is_some (sym u ∙ (early_holds w q l t).1)) (λ t. t)
 
     -- a head that was delivered a frame of the phase has a choice, unless it closed the phase by entry before
     pub delivered_holds : {s : History} → Valid g s → (q : ℕ) → q < g.n → took (delivery k) q s ≡ true → took (closing k) q s ≡ false → (c : ℕ) × (held g k s q ≡ SomeNumber c)

@@ -16,9 +16,9 @@ use Rattle.protocol.specs.Record.{is_reading, kept_of, start_of, fresh}
 use Rattle.protocol.specs.Step.{with_senders, vote, adjust, starts_held, may_lead, concluded, is_tested}
 use Rattle.protocol.specs.Run.{Event, History, record_of, frame_sent, frame_of}
 use Rattle.protocol.specs.Premises.{takes, receives, took, received, last_start}
-use Rattle.protocol.proofs.Tests.{absurd-bool, cases, and_left, and_right, and_both, or_second, or_right, eqb_same, count_mono}
+use Rattle.protocol.proofs.Tests.{absurd_bool, cases, and_left, and_right, and_both, or_second, or_right, eqb_same, count_mono}
 use Rattle.protocol.proofs.Moments.{Earlier, now, later}
-use Rattle.protocol.proofs.Effects.{votes, adjusts, delivered_by, set_keeps, ignored, kept_after, column_kept, prepared, Sending, nothing, voting, adjusting, send, sending_of, none-is-some, early_now}
+use Rattle.protocol.proofs.Effects.{votes, adjusts, delivered_by, set_keeps, ignored, kept_after, column_kept, prepared, Sending, nothing, voting, adjusting, send, sending_of, none_is_some, early_now}
 use Rattle.protocol.proofs.Effects as Effects
 use Rattle.protocol.proofs.Valid.{base_of, Taken, Valid, start, more, record_other, by_head, invariant, kept_next, kept_at, confirmed_took}
 use Rattle.protocol.proofs.Ranges.{run_in_range}
@@ -34,7 +34,7 @@ is_start (Adjust j c y) e = absurd (omega arith)
 -- a frame that is no start leaves the start reading
 start_kept : (r : HeadRecord) (p : ℕ) (x : Frame) → eqb (delivered_by x) 2 ≡ false → (kept_after r p x).start ≡ start_of r p
 start_kept r p NoFrame e = refl
-start_kept r p Start e = absurd-bool refl e
+start_kept r p Start e = absurd_bool refl e
 start_kept r p (Vote j c y) e = refl
 start_kept r p (Adjust j c y) e = refl
 
@@ -56,7 +56,7 @@ waiting_send : (x : Sending) (m : HeadRecord) → Waiting m → Waiting (send x 
 unfolding vote adjust starts_held
 waiting_send nothing m w = w
 waiting_send Effects.Sending.start m w = w
-waiting_send (voting c) m w = λ a b h. none-is-some (sym h)
+waiting_send (voting c) m w = λ a b h. none_is_some (sym h)
 waiting_send (adjusting c x) m w =
     waiting_same m (send (adjusting c x) m).after refl refl (λ h. h) (λ h. h) refl (λ v. set_keeps (λ z. z.start) m.senders m.own v _ refl) w
 
@@ -66,7 +66,7 @@ unfolding may_lead vote starts_held
 waiting_lead m c = go (may_lead m) refl
   where
     go : (b : Bool) → may_lead m ≡ b → Waiting (send (cond b (voting c) nothing) m).after
-    go true u = λ a b h. none-is-some (sym h)
+    go true u = λ a b h. none_is_some (sym h)
     go false u = λ a b h.
         let few : leb (m.f + 1) (starts_held m) ≡ false = (rw (a, b, h) at u) in
         let lt = leb-false (m.f + 1) (starts_held m) few in
@@ -89,7 +89,7 @@ waiting_effect r VoteTurn w = waiting_lead (prepared r VoteTurn) r.own
 waiting_effect r (VoteDelivered p k c x) w =
     waiting_send (sending_of r (VoteDelivered p k c x)) (prepared r (VoteDelivered p k c x))
     (waiting_same r (prepared r (VoteDelivered p k c x)) refl refl (λ h. h) (λ h. h) refl (λ v. column_kept (λ z. z.start) r p (Vote k c x) v refl) w)
-waiting_effect r VoteClose w = waiting_send nothing (prepared r VoteClose) (λ a b h. absurd-bool refl b)
+waiting_effect r VoteClose w = waiting_send nothing (prepared r VoteClose) (λ a b h. absurd_bool refl b)
 waiting_effect r AdjustTurn w = waiting_send (sending_of r AdjustTurn) (prepared r AdjustTurn) w
 waiting_effect r (AdjustDelivered p k c x) w =
     waiting_send (sending_of r (AdjustDelivered p k c x)) (prepared r (AdjustDelivered p k c x))
@@ -138,7 +138,7 @@ module _ (g : Setting) (small : g.n ≤ 16) where
           (λ u. let two = eqb-true (delivered_by x) 2 u in
           let a : e.entry.action ≡ 2 = action_two (has_sender e.entry.action) (sym t.asked.frame_is ∙ two) in
           let k : e.entry.serial ≡ 0 = sym t.asked.serial_is ∙ rw (is_start x two) refl in
-          absurd-bool (and_both (and_both (eqb_same e.entry.head) (eq-eqb e.entry.action 2 a)) (and_both d (eq-eqb e.entry.serial 0 k))) h)
+          absurd_bool (and_both (and_both (eqb_same e.entry.head) (eq-eqb e.entry.action 2 a)) (and_both d (eq-eqb e.entry.serial 0 k))) h)
           (λ u. u)
         where
           action_two : (b : Bool) → cond b e.entry.action 0 ≡ 2 → e.entry.action ≡ 2
@@ -169,7 +169,7 @@ module _ (g : Setting) (small : g.n ≤ 16) where
       go false u h ih o = on (start_same t w v u) u (ih (rw u at h))
 
   pub start_found : {s : History} → Valid g s → (q v : ℕ) → received 2 v 0 q s ≡ true → (record_of g s q).adjust.closed ≡ false → StartAt g s q v
-  start_found start q v h o = absurd-bool h refl
+  start_found start q v h o = absurd_bool h refl
   start_found (more t w) q v h o = let before = was_open g adjusts t w q o in start_step t w q v h before (λ i. start_found w q v i before)
 
   -- an event that closes the adjust phase has its effect first
@@ -179,13 +179,13 @@ module _ (g : Setting) (small : g.n ≤ 16) where
   -- every head waits so at every moment
   pub waits : {s : History} → Valid g s → (q : ℕ) → Waiting (record_of g s q)
   unfolding fresh starts_held
-  waits = invariant g (λ q r. Waiting r) (λ q a. absurd-bool a refl) (λ s e t v w. waiting_concluded (is_tested (base_of g s e) t.action) (send (sending_of (base_of g s e) t.action) (prepared (base_of g s e) t.action)) (waiting_effect (base_of g s e) t.action w))
+  waits = invariant g (λ q r. Waiting r) (λ q a. absurd_bool a refl) (λ s e t v w. waiting_concluded (is_tested (base_of g s e) t.action) (send (sending_of (base_of g s e) t.action) (prepared (base_of g s e) t.action)) (waiting_effect (base_of g s e) t.action w))
 
   -- (d) WHOEVER IS VOTED FOR HAS CONFIRMED ITS START
   module _ (fit : heads_fit g.n g.f ≡ true) where
     pub frame_confirmed : {s : History} → Valid g s → (p j c : ℕ) → names g votes s p j ≡ SomeNumber c → took 3 c s ≡ true
     unfolding frame_sent
-    frame_confirmed start p j c = none-is-some
+    frame_confirmed start p j c = none_is_some
     frame_confirmed (more {e = e} {s = s} t v) p j c =
         by_head (λ p. names g votes (e ∷ s) p j ≡ SomeNumber c → took 3 c (e ∷ s) ≡ true) e p
         (frame_new g votes (λ j c. took 3 c (e ∷ s) ≡ true) (turn g votes t v) (λ j c h. or_second (takes 3 c e) _ (frame_confirmed v e.entry.head j c h))

@@ -12,8 +12,8 @@ use borrow.Author.Tests.{eqb-true, eqb-false, eq-eqb}
 use Rattle.protocol.specs.Base.{◌⇒◌, all, all_below, count_below}
 use Rattle.protocol.specs.Record.{mark_number}
 
-pub absurd-bool {ℓ} : {A : Type ℓ} {b : Bool} → b ≡ true → b ≡ false → A
-absurd-bool p q = absurd (let z : ◌≡◌ {A = ℕ} 0 1 = cc in omega arith)
+pub absurd_bool {ℓ} : {A : Type ℓ} {b : Bool} → b ≡ true → b ≡ false → A
+absurd_bool p q = absurd (let z : ◌≡◌ {A = ℕ} 0 1 = cc in omega arith)
 
 pub cases {ℓ} : {P : Type ℓ} (b : Bool) → (b ≡ true → P) → (b ≡ false → P) → P
 cases true f g = f refl
@@ -25,12 +25,12 @@ cond_elim P true f g = f refl
 cond_elim P false f g = g refl
 
 pub not_true : {b : Bool} → not b ≡ true → b ≡ false
-not_true {b = true} e = absurd-bool refl (sym e)
+not_true {b = true} e = absurd_bool refl (sym e)
 not_true {b = false} e = refl
 
 pub not_false : {b : Bool} → not b ≡ false → b ≡ true
 not_false {b = true} e = refl
-not_false {b = false} e = absurd-bool refl e
+not_false {b = false} e = absurd_bool refl e
 
 pub and_left : (a b : Bool) → (a && b) ≡ true → a ≡ true
 and_left true b e = refl
@@ -38,7 +38,7 @@ and_left false b e = e
 
 pub and_right : (a b : Bool) → (a && b) ≡ true → b ≡ true
 and_right true b e = e
-and_right false b e = absurd-bool e refl
+and_right false b e = absurd_bool e refl
 
 -- for `search`: a part of a test that holds, holds
 pub ruleset parts = (and_left, and_right)
@@ -59,7 +59,7 @@ or_left true b e = e
 or_left false b e = refl
 
 pub or_right : (a b : Bool) → (a || b) ≡ false → b ≡ false
-or_right true b e = absurd-bool refl e
+or_right true b e = absurd_bool refl e
 or_right false b e = e
 
 pub or_neither : {a b : Bool} → a ≡ false → b ≡ false → (a || b) ≡ false
@@ -78,7 +78,7 @@ or_second false b p = p
 
 pub implied : (a b : Bool) → (a ⇒ b) ≡ true → a ≡ true → b ≡ true
 implied true b e p = e
-implied false b e p = absurd-bool p refl
+implied false b e p = absurd_bool p refl
 
 pub implies : (a b : Bool) → (a ≡ true → b ≡ true) → (a ⇒ b) ≡ true
 implies true b f = f refl
@@ -134,7 +134,7 @@ pub some_count : (n : ℕ) (p : ℕ → Bool) (k : ℕ) → k < n → p k ≡ tr
 some_count zero p k h e = absurd (not-suc-le-zero h)
 some_count (suc n) p k h e =
     cond_elim (λ (x : ℕ). 0 < x) (p n) (λ _. omega arith)
-    (λ t. some_count n p k (cases (eqb k n) (λ z. absurd-bool e (rw (eqb-true k n z) t)) (λ z. let d = eqb-false k n z in omega arith)) e)
+    (λ t. some_count n p k (cases (eqb k n) (λ z. absurd_bool e (rw (eqb-true k n z) t)) (λ z. let d = eqb-false k n z in omega arith)) e)
 
 module _ {A : Type 0} where
   -- x is an element of the list
@@ -147,7 +147,7 @@ module _ {A : Type 0} where
   all_in p (next {y = y} m) e = all_in p m (and_right (p y) _ e)
 
   pub in_nothing : {B : Type 0} {x : A} → In x [] → B
-  in_nothing m = absurd-bool (all_in (λ _. false) m refl) refl
+  in_nothing m = absurd_bool (all_in (λ _. false) m refl) refl
 
   pub in_cons : {B : Type 0} {x y : A} {l : List A} → In x (y ∷ l) → (x ≡ y → B) → (In x l → B) → B
   in_cons first f g = f refl
@@ -168,8 +168,8 @@ same_list (x ∷ l) (y ∷ m) = eqb x y && same_list l m
 
 pub same_list_lem : (l m : List ℕ) → same_list l m ≡ true → l ≡ m
 same_list_lem [] [] e = refl
-same_list_lem [] (y ∷ m) e = absurd-bool e refl
-same_list_lem (x ∷ l) [] e = absurd-bool e refl
+same_list_lem [] (y ∷ m) e = absurd_bool e refl
+same_list_lem (x ∷ l) [] e = absurd_bool e refl
 same_list_lem (x ∷ l) (y ∷ m) e = ap₂ ◌∷◌ (eqb-true x y (and_left (eqb x y) _ e)) (same_list_lem l m (and_right (eqb x y) _ e))
 
 -- a mark as a number is 1 where it is set

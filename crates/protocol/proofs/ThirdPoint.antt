@@ -16,8 +16,8 @@ use Rattle.protocol.specs.Record.{reading_or0, number_or0, chosen_start, outcome
 use Rattle.protocol.specs.Run.{Event, History, record_of, ran, run_sheet}
 use Rattle.protocol.specs.Premises.{takes, receives, took, is_steady, last_start, premises, first_broken, judge}
 use Rattle.protocol.specs.Claim.{CorrectHead, ending_of, LookedAt, shown, apart, since_start, bound_on_d, Agreement, ThirdPoint}
-use Rattle.protocol.proofs.Tests.{absurd-bool, cases, and_left, and_right, or_first}
-use Rattle.protocol.proofs.Moments.{Earlier, now, later, earlier_trans, earlier_past, earlier_append, later_event}
+use Rattle.protocol.proofs.Tests.{absurd_bool, cases, and_left, and_right, or_first}
+use Rattle.protocol.proofs.Moments.{Earlier, now, earlier_trans, earlier_past, earlier_append, later_event}
 use Rattle.protocol.proofs.Effects.{votes, adjusts}
 use Rattle.protocol.proofs.Valid.{valid_earlier, accepted_sheet}
 use Rattle.protocol.proofs.Phases.{held, ChosenAt, chosen_at, over_later}
@@ -82,7 +82,7 @@ module _ {g : Setting} {h : History} (r : Round g h) where
       let b = (ends c).start in
       let v = valid_earlier (earlier_past w.there) r.sheet.valid in
       let open-then = adjust_later r v q c.is_head w.was_open in
-      let since = later_event w.there (earlier_past x) (λ y. absurd-bool (over_later g adjusts y v q k.closed) open-then) in
+      let since = later_event w.there (earlier_past x) (λ y. absurd_bool (over_later g adjusts y v q k.closed) open-then) in
       steady r x (earlier_trans b.there since) c k.at_head (eqb-true _ q (and_left (eqb b.event.entry.head q) _ (and_left (takes 2 q b.event) _ b.is_start)))
 
   -- the last deliveries before the confirmation are the last ones

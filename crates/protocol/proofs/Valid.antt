@@ -18,7 +18,7 @@ use Rattle.protocol.specs.Step.{with_last, accepted, refused, is_closed, act, ta
 use Rattle.protocol.specs.Causes.{sheet_verdict}
 use Rattle.protocol.specs.Run.{Event, History, record_of, is_delivered_by, or_else, frame_sent, frame_of, is_frame, carried_choice, carried_reading, input_of, last_time, step_entry, Run, stopped, ran, extend, and_then, run_of, after_verdict, run_sheet}
 use Rattle.protocol.specs.Premises.{takes, took}
-use Rattle.protocol.proofs.Tests.{absurd-bool, cases, parts, and_left, and_right, and_both, or_left, or_right, or_first, or_second, or_cases, not_false, eqb_same}
+use Rattle.protocol.proofs.Tests.{absurd_bool, cases, parts, and_left, and_right, and_both, or_left, or_right, or_first, or_second, or_cases, not_false, eqb_same}
 use Rattle.protocol.proofs.Fits.{entry_fits_lem, sheet_fits}
 use Rattle.protocol.proofs.Moments.{Earlier, now, later}
 use Rattle.protocol.proofs.Effects.{Kind, votes, adjusts, phase_of, delivery, closing, number, delivery_in, delivered_by, serial_of, phase_last, sending_of, prepared, answer, closes_early, act_split, act_accepted, answer_closed, answer_early, TakenAs, taken_as_lem, taken_delivery, Unspent, taken_number, delivery_unspent, taken_adjust_turn, asked_adjust_turn, taken_close, marks_of, send_marks, send_same, Unsaid, send_keeps, prepared_same, ignored, kept_after, kept_after_lem}
@@ -69,12 +69,12 @@ module _ {g : Setting} where
 -- the frame that is looked up is one that the action delivers under the serial
 pub frame_fits : (s : History) (a p k : ℕ) → is_frame (frame_sent s a p k) ≡ true → is_delivered_by a k (frame_sent s a p k) ≡ true
 unfolding frame_sent
-frame_fits [] a p k h = absurd-bool h refl
+frame_fits [] a p k h = absurd_bool h refl
 frame_fits (e ∷ s) a p k h = go (frame_sent s a p k) (frame_fits s a p k) h
   where
     new : (b : Bool) → b ≡ (eqb e.entry.head p && is_delivered_by a k e.frame) → is_frame (cond b e.frame NoFrame) ≡ true → is_delivered_by a k (cond b e.frame NoFrame) ≡ true
     new true t h = and_right (eqb e.entry.head p) _ (sym t)
-    new false t h = absurd-bool h refl
+    new false t h = absurd_bool h refl
 
     go : (x : Frame) → (is_frame x ≡ true → is_delivered_by a k x ≡ true) → is_frame (or_else x (cond (eqb e.entry.head p && is_delivered_by a k e.frame) e.frame NoFrame)) ≡ true
         → is_delivered_by a k (or_else x (cond (eqb e.entry.head p && is_delivered_by a k e.frame) e.frame NoFrame)) ≡ true
@@ -91,9 +91,9 @@ carried_back (SomeReading x) = refl
 -- a frame that a plain action, or another delivery, would deliver is none
 no_frame : (a k : ℕ) (x : Frame) → has_sender a ≡ false → (is_frame x ≡ true → is_delivered_by a k x ≡ true) → x ≡ NoFrame
 no_frame a k NoFrame h f = refl
-no_frame a k Start h f = absurd-bool (f refl) (or_left (eqb a 2) _ h)
-no_frame a k (Vote j c x) h f = absurd-bool (and_left (eqb a 5) _ (f refl)) (or_left (eqb a 5) _ (or_right (eqb a 2) _ h))
-no_frame a k (Adjust j c x) h f = absurd-bool (and_left (eqb a 8) _ (f refl)) (or_right (eqb a 5) _ (or_right (eqb a 2) _ h))
+no_frame a k Start h f = absurd_bool (f refl) (or_left (eqb a 2) _ h)
+no_frame a k (Vote j c x) h f = absurd_bool (and_left (eqb a 5) _ (f refl)) (or_left (eqb a 5) _ (or_right (eqb a 2) _ h))
+no_frame a k (Adjust j c x) h f = absurd_bool (and_left (eqb a 8) _ (f refl)) (or_right (eqb a 5) _ (or_right (eqb a 2) _ h))
 
 abbrev entry_with : Entry → ℕ → Entry
 entry_with e a = record { time = e.time; reading = e.reading; head = e.head; action = a; sender = e.sender; serial = e.serial }
@@ -109,25 +109,25 @@ asked_plain e a x i nu de pl ze fi =
 
 asked_start : (e : Entry) (x : Frame) → is_frame x ≡ true → eqb e.serial 0 ≡ true → (is_frame x ≡ true → is_delivered_by 2 e.serial x ≡ true)
     → Asked (entry_with e 2) x (StartDelivered e.sender)
-asked_start e NoFrame se ze fi = absurd-bool se refl
+asked_start e NoFrame se ze fi = absurd_bool se refl
 asked_start e Start se ze fi = record { number_is = refl; delivery_is = refl; serial_is = sym (eqb-true e.serial 0 ze); frame_is = refl }
-asked_start e (Vote j c x) se ze fi = absurd-bool (fi refl) refl
-asked_start e (Adjust j c x) se ze fi = absurd-bool (fi refl) refl
+asked_start e (Vote j c x) se ze fi = absurd_bool (fi refl) refl
+asked_start e (Adjust j c x) se ze fi = absurd_bool (fi refl) refl
 
 asked_vote : (e : Entry) (x : Frame) → is_frame x ≡ true → (is_frame x ≡ true → is_delivered_by 5 e.serial x ≡ true)
     → Asked (entry_with e 5) x (VoteDelivered e.sender e.serial (carried_choice x) (cond (not (is_reading (carried_reading x))) NoReading (SomeReading (reading (reading_or0 (carried_reading x))))))
-asked_vote e NoFrame se fi = absurd-bool se refl
-asked_vote e Start se fi = absurd-bool (fi refl) refl
+asked_vote e NoFrame se fi = absurd_bool se refl
+asked_vote e Start se fi = absurd_bool (fi refl) refl
 asked_vote e (Vote j c x) se fi =
     let eq : j ≡ e.serial = eqb-true j e.serial (fi refl) in
     record { number_is = refl; delivery_is = rw (carried_back x, eq) refl; serial_is = eq; frame_is = refl }
-asked_vote e (Adjust j c x) se fi = absurd-bool (fi refl) refl
+asked_vote e (Adjust j c x) se fi = absurd_bool (fi refl) refl
 
 asked_adjust : (e : Entry) (x : Frame) → is_frame x ≡ true → (is_frame x ≡ true → is_delivered_by 8 e.serial x ≡ true)
     → Asked (entry_with e 8) x (AdjustDelivered e.sender e.serial (carried_choice x) (reading (reading_or0 (carried_reading x))))
-asked_adjust e NoFrame se fi = absurd-bool se refl
-asked_adjust e Start se fi = absurd-bool (fi refl) refl
-asked_adjust e (Vote j c x) se fi = absurd-bool (fi refl) refl
+asked_adjust e NoFrame se fi = absurd_bool se refl
+asked_adjust e Start se fi = absurd_bool (fi refl) refl
+asked_adjust e (Vote j c x) se fi = absurd_bool (fi refl) refl
 asked_adjust e (Adjust j c x) se fi =
     let eq : j ≡ e.serial = eqb-true j e.serial (fi refl) in
     record { number_is = refl; delivery_is = rw eq refl; serial_is = eq; frame_is = refl }

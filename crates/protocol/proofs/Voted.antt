@@ -15,7 +15,7 @@ use Rattle.protocol.specs.Words.{setting_at, heads_fit}
 use Rattle.protocol.specs.Record.{is_reading, reading, no_sender, kept_of, start_of, vote_of, same_number, fresh, record_in_range}
 use Rattle.protocol.specs.Step.{kept_for, drop_others, vote, adjust, vote_readings, candidate_after}
 use Rattle.protocol.specs.Run.{Event, History, record_of, frame_sent, frame_of, ran, run_sheet}
-use Rattle.protocol.proofs.Tests.{absurd-bool, cases, cond_elim, and_right, implied, eqb_same}
+use Rattle.protocol.proofs.Tests.{absurd_bool, cases, cond_elim, and_right, implied, eqb_same}
 use Rattle.protocol.proofs.Effects.{votes, Delivery, delivered_by, serial_of, senders_after, set_keeps, set_holds, closed_last, kept_for_at, Sending, nothing, voting, adjusting, send, ignored, kept_after, kept_after_lem, answer, prepared_same, both_name, same_number_lem, own_kept, own_voted}
 use Rattle.protocol.proofs.Effects as Effects
 use Rattle.protocol.proofs.Valid.{base_of, Valid, start, more, record_at, record_other, by_head, delivery_at, of_effect, invariant, fixed, accepted_sheet}
@@ -61,7 +61,7 @@ stays : (e : Event) (s : History) (p : ℕ) (k : Sender) → OfVote s p k → Of
 stays e s p k h x r = let v = h x r in (v.0, v.1, carried_stays e s p v.0 x v.2)
 
 none_read : {x : Reading} {A : Type 0} → NoReading ≡ SomeReading x → A
-none_read e = absurd-bool (ap is_reading e) refl
+none_read e = absurd_bool (ap is_reading e) refl
 
 -- a reading that is left where others are dropped is the one that was there
 left_reading : (b : Bool) (y : OptReading) (x : Reading) → cond b y NoReading ≡ SomeReading x → (b ≡ true) × (y ≡ SomeReading x)

@@ -1,4 +1,4 @@
-// Where a head's row has what: the order of rowOf (specs/Row.antt).
+// Where a head's row has what: the order of row_of (specs/Row.antt).
 
 // The last reading.
 pub const LAST: usize = 0;

@@ -68,7 +68,7 @@ pub struct HeadRecord {
     pub senders: [Sender; 16],
 }
 
-// A head's record as a row of numbers, in the memory that a board lends: rowOf (specs/Row.antt) says which stands for what, and
+// A head's record as a row of numbers, in the memory that a board lends: row_of (specs/Row.antt) says which stands for what, and
 // `at` names them. How many they are, row_length there, the code says here alone.
 pub const ROW_LENGTH: usize = 112;
 

@@ -52,7 +52,7 @@ kinds_more l w =
     (λ i lt. ap (λ (x : ℕ). eqb (kind_of x) (6 + i % 3)) (get_or-append l (w ∷ []) 0 i lt))))
 
 -- what is noted of one word more that is shown, at the head's place among three or at another
-module _ (q : ℕ) (l : List ℕ) (w count : ℕ) (fits : Bool) (ofHead : List ℕ) (was : Notes q l count fits ofHead) where
+module _ (q : ℕ) (l : List ℕ) (w count : ℕ) (fits : Bool) (words_of_head : List ℕ) (was : Notes q l count fits words_of_head) where
   abbrev fits_now : Bool
   fits_now = eqb (kind_of w) (6 + count % 3) && fits
 
@@ -62,7 +62,7 @@ module _ (q : ℕ) (l : List ℕ) (w count : ℕ) (fits : Bool) (ofHead : List �
   fits_more : fits_now ≡ kinds_fit 3 (l ++ (w ∷ []))
   fits_more = rw (was.count_is, was.fits_is) (sym (kinds_more l w))
 
-  pub other_head : count / 3 ≢ q → Notes q (l ++ (w ∷ [])) (count + 1) fits_now ofHead
+  pub other_head : count / 3 ≢ q → Notes q (l ++ (w ∷ [])) (count + 1) fits_now words_of_head
   other_head other = record {
     count_is = count_more;
     fits_is = fits_more;
@@ -70,26 +70,26 @@ module _ (q : ℕ) (l : List ℕ) (w count : ℕ) (fits : Bool) (ofHead : List �
     word_is = λ j lt. was.word_is j lt ∙ sym (at_snoc l w (3 * q + j) (λ z. other (let c = was.count_is in omega arith)));
   }
 
-  pub same_head : count / 3 ≡ q → Notes q (l ++ (w ∷ [])) (count + 1) fits_now (set ofHead (count % 3) w)
-  same_head same = record { count_is = count_more; fits_is = fits_more; has_three = length-set ofHead (count % 3) w ∙ was.has_three; word_is = at }
+  pub same_head : count / 3 ≡ q → Notes q (l ++ (w ∷ [])) (count + 1) fits_now (set words_of_head (count % 3) w)
+  same_head same = record { count_is = count_more; fits_is = fits_more; has_three = length-set words_of_head (count % 3) w ∙ was.has_three; word_is = at }
     where
-      at : (j : ℕ) → j < 3 → get_or (set ofHead (count % 3) w) j 0 ≡ word_of 3 (l ++ (w ∷ [])) q j
+      at : (j : ℕ) → j < 3 → get_or (set words_of_head (count % 3) w) j 0 ≡ word_of 3 (l ++ (w ∷ [])) q j
       at j lt =
           cases (eqb j (count % 3))
           (λ t. let here = eqb-true j (count % 3) t in
           let index : 3 * q + j ≡ length l = let c = was.count_is in omega arith in
-          rw (index, here, get_or-append_seam l w [] 0) (get_or-set_same ofHead (count % 3) w 0 (let n = was.has_three in omega arith)))
+          rw (index, here, get_or-append_seam l w [] 0) (get_or-set_same words_of_head (count % 3) w 0 (let n = was.has_three in omega arith)))
           (λ t. let there = eqb-false j (count % 3) t in
-          get_or-set_other ofHead (count % 3) j w 0 there ∙ was.word_is j lt ∙ sym (at_snoc l w (3 * q + j) (λ z. there (let c = was.count_is in omega arith))))
+          get_or-set_other words_of_head (count % 3) j w 0 there ∙ was.word_is j lt ∙ sym (at_snoc l w (3 * q + j) (λ z. there (let c = was.count_is in omega arith))))
 
 -- the words up to an index, one more
-module _ (q : ℕ) (words : List ℕ) (i : ℕ) (inside : i < length words) (count : ℕ) (fits : Bool) (ofHead : List ℕ) where
+module _ (q : ℕ) (words : List ℕ) (i : ℕ) (inside : i < length words) (count : ℕ) (fits : Bool) (words_of_head : List ℕ) where
   pub more_shown : is_shown (get_or words i 0) ≡ true
-      → Notes q (keep is_shown (take i words) ++ (get_or words i 0 ∷ [])) count fits ofHead → Notes q (keep is_shown (take (i + 1) words)) count fits ofHead
-  more_shown t = subst (λ (l : List ℕ). Notes q l count fits ofHead) (sym (keep_more words i inside ∙ rw t refl))
+      → Notes q (keep is_shown (take i words) ++ (get_or words i 0 ∷ [])) count fits words_of_head → Notes q (keep is_shown (take (i + 1) words)) count fits words_of_head
+  more_shown t = subst (λ (l : List ℕ). Notes q l count fits words_of_head) (sym (keep_more words i inside ∙ rw t refl))
 
-  pub more_passed : is_shown (get_or words i 0) ≡ false → Notes q (keep is_shown (take i words)) count fits ofHead → Notes q (keep is_shown (take (i + 1) words)) count fits ofHead
-  more_passed t = subst (λ (l : List ℕ). Notes q l count fits ofHead) (sym (keep_more words i inside ∙ rw t (append-nil (keep is_shown (take i words)))))
+  pub more_passed : is_shown (get_or words i 0) ≡ false → Notes q (keep is_shown (take i words)) count fits words_of_head → Notes q (keep is_shown (take (i + 1) words)) count fits words_of_head
+  more_passed t = subst (λ (l : List ℕ). Notes q l count fits words_of_head) (sym (keep_more words i inside ∙ rw t (append-nil (keep is_shown (take i words)))))
 
 -- no more words are shown than there are
 pub shown_most : (p : ℕ → Bool) (ws : List ℕ) → length (keep p ws) ≤ length ws

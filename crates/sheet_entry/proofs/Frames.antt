@@ -20,7 +20,7 @@ use Rattle.protocol.specs.Record.{Kind, votes, adjusts, number_or0}
 use Rattle.protocol.specs.Premises.{delivery}
 use Rattle.protocol.specs.Row.{sent_of}
 use Rattle.protocol.specs.Run.{Event, History, is_delivered_by, carried_choice}
-use Rattle.protocol.proofs.Tests.{absurd-bool, cases, cond_elim, and_left, and_right, eqb_same, and_false}
+use Rattle.protocol.proofs.Tests.{absurd_bool, cases, cond_elim, and_left, and_right, eqb_same, and_false}
 use Rattle.protocol.proofs.Tables.{length_table, table_at, is_table, set_table}
 use Rattle.protocol.proofs.Effects.{named, serial_of}
 use Rattle.protocol.proofs.Valid.{Taken, Valid, more}
@@ -39,13 +39,13 @@ stands_at e j = eqb e.entry.head (head_at j) && is_delivered_by (action_at j) (s
 
 -- a vote or adjust is delivered by one action, under one serial
 delivered_once : (k : Kind) (i a j : ℕ) (x : Frame) → is_delivered_by (delivery k) i x ≡ true → is_delivered_by a j x ≡ true → (a ≡ delivery k) × (j ≡ i)
-delivered_once votes i a j NoFrame p q = absurd-bool p refl
-delivered_once votes i a j Start p q = absurd-bool p refl
+delivered_once votes i a j NoFrame p q = absurd_bool p refl
+delivered_once votes i a j Start p q = absurd_bool p refl
 delivered_once votes i a j (Vote m c x) p q = (eqb-true a 5 (and_left (eqb a 5) _ q), sym (eqb-true m j (and_right (eqb a 5) _ q)) ∙ eqb-true m i p)
-delivered_once votes i a j (Adjust m c x) p q = absurd-bool p refl
-delivered_once adjusts i a j NoFrame p q = absurd-bool p refl
-delivered_once adjusts i a j Start p q = absurd-bool p refl
-delivered_once adjusts i a j (Vote m c x) p q = absurd-bool p refl
+delivered_once votes i a j (Adjust m c x) p q = absurd_bool p refl
+delivered_once adjusts i a j NoFrame p q = absurd_bool p refl
+delivered_once adjusts i a j Start p q = absurd_bool p refl
+delivered_once adjusts i a j (Vote m c x) p q = absurd_bool p refl
 delivered_once adjusts i a j (Adjust m c x) p q = (eqb-true a 8 (and_left (eqb a 8) _ q), sym (eqb-true m j (and_right (eqb a 8) _ q)) ∙ eqb-true m i p)
 
 -- so it stands at its own index only

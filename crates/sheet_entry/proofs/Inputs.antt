@@ -19,7 +19,7 @@ use Rattle.protocol.specs.Record.{Kind, votes, adjusts, reading_or0, is_reading}
 use Rattle.protocol.specs.Premises.{delivery}
 use Rattle.protocol.specs.Row.{sent_of}
 use Rattle.protocol.specs.Run.{History, is_delivered_by, frame_sent, frame_of, is_frame, carried_choice, carried_reading, input_of}
-use Rattle.protocol.proofs.Tests.{absurd-bool, and_left}
+use Rattle.protocol.proofs.Tests.{absurd_bool, and_left}
 use Rattle.protocol.proofs.Tables.{table_at}
 use Rattle.protocol.proofs.Valid.{frame_fits}
 use Rattle.protocol.proofs.Ranges.{frames_in_range}
@@ -37,22 +37,22 @@ Delivers a j x = is_frame x ≡ true → is_delivered_by a j x ≡ true
 vote_carries : (j : ℕ) (x : Frame) → Delivers 5 j x → reading_or0 (carried_reading x) < 2 ^ 28
     → ((sent_of x).carried - 1 ≡ reading_or0 (carried_reading x)) × (eqb (sent_of x).carried 0 ≡ not (is_reading (carried_reading x)))
 vote_carries j NoFrame d b = (refl, refl)
-vote_carries j Start d b = absurd-bool (d refl) refl
+vote_carries j Start d b = absurd_bool (d refl) refl
 vote_carries j (Vote i c NoReading) d b = (refl, refl)
 vote_carries j (Vote i c (SomeReading x)) d b = rw (lt-ltb x.0 (2 ^ 28) b) (omega arith, ne_eqb (x.0 + 1) 0 (λ z. omega arith))
-vote_carries j (Adjust i c x) d b = absurd-bool (d refl) refl
+vote_carries j (Adjust i c x) d b = absurd_bool (d refl) refl
 
 adjust_carries : (j : ℕ) (x : Frame) → Delivers 8 j x → (sent_of x).carried ≡ reading_or0 (carried_reading x)
 adjust_carries j NoFrame d = refl
 adjust_carries j Start d = refl
-adjust_carries j (Vote i c x) d = absurd-bool (d refl) refl
+adjust_carries j (Vote i c x) d = absurd_bool (d refl) refl
 adjust_carries j (Adjust i c x) d = refl
 
 plain_carries : (a j : ℕ) (x : Frame) → Delivers a j x → eqb a 5 ≡ false → eqb a 8 ≡ false → (0 ≡ carried_choice x) × (0 ≡ reading_or0 (carried_reading x))
 plain_carries a j NoFrame d u w = (refl, refl)
 plain_carries a j Start d u w = (refl, refl)
-plain_carries a j (Vote i c x) d u w = absurd-bool (and_left (eqb a 5) _ (d refl)) u
-plain_carries a j (Adjust i c x) d u w = absurd-bool (and_left (eqb a 8) _ (d refl)) w
+plain_carries a j (Vote i c x) d u w = absurd_bool (and_left (eqb a 5) _ (d refl)) u
+plain_carries a j (Adjust i c x) d u w = absurd_bool (and_left (eqb a 8) _ (d refl)) w
 
 -- THE INPUT
 

@@ -22,7 +22,7 @@ use Rattle.protocol.specs.Row.{row_of}
 use Rattle.protocol.specs.Run.{History, record_of, frame_of, is_frame, input_of}
 use Rattle.protocol.specs.Premises.{delivery, is_early}
 use Rattle.protocol.specs.OpenTable.{no, open_index, open_actions}
-use Rattle.protocol.proofs.Tests.{absurd-bool, cases, and_false, and_true, or_right}
+use Rattle.protocol.proofs.Tests.{absurd_bool, cases, and_false, and_true, or_right}
 use Rattle.protocol.proofs.Fits.{entry_fits_lem}
 use Rattle.protocol.proofs.Valid.{Valid, fixed}
 use Rattle.protocol.proofs.Runs.{start_sent, sent_below}
@@ -60,10 +60,10 @@ closed_unspent r a = go (is_spent (number a) r.vote.early r.adjust.early)
 
 -- and has no sender
 spent_plain : (a : ℕ) (vote adjust : Bool) → is_spent a vote adjust ≡ true → has_sender a ≡ false
-spent_plain a vote adjust spent = cases (has_sender a) (λ t. absurd-bool spent (sym (not_spent a vote adjust (unlike 6 refl t) (unlike 7 refl t) (unlike 9 refl t)))) (λ t. t)
+spent_plain a vote adjust spent = cases (has_sender a) (λ t. absurd_bool spent (sym (not_spent a vote adjust (unlike 6 refl t) (unlike 7 refl t) (unlike 9 refl t)))) (λ t. t)
   where
     unlike : (b : ℕ) → has_sender b ≡ false → has_sender a ≡ true → a ≢ b
-    unlike b plain t z = absurd-bool t (ap has_sender z ∙ plain)
+    unlike b plain t z = absurd_bool t (ap has_sender z ∙ plain)
 
 -- so where the table says no an entry is open if it is spent, and elsewhere by its sender alone
 spent_or_passes : (sent own says_no spent : Bool) → (spent ≡ true → (sent ≡ true) × (own ≡ false))

@@ -117,9 +117,9 @@ module _ {ws : List ℕ} {i : ℕ} {heads : List (List ℕ)} {choices carried : 
         let same : h ≡ q = omega arith in
         early_read (record_of (setting_at ws) now.past q) k (ap (λ (p : ℕ). get_or heads p []) same ∙ row_at now.stands q low)
 
-    line_next : (h : ℕ) (votesBefore adjustsBefore : Bool) (l : Line) → h ≡ (entry_at ws i).head % 16 → votesBefore ≡ eqb (get_or (get_or heads h []) 10 0) 1 → adjustsBefore ≡ eqb (get_or (get_or heads h []) 11 0) 1
-        → IsLine (entry_at ws i) votesBefore adjustsBefore (get_or rows h []) l → l ≡ shown_after (setting_at ws) (entry_at ws i) next
-    line_next h votesBefore adjustsBefore l index_is votes-are adjusts-are is =
+    line_next : (h : ℕ) (votes_before adjusts_before : Bool) (l : Line) → h ≡ (entry_at ws i).head % 16 → votes_before ≡ eqb (get_or (get_or heads h []) 10 0) 1 → adjusts_before ≡ eqb (get_or (get_or heads h []) 11 0) 1
+        → IsLine (entry_at ws i) votes_before adjusts_before (get_or rows h []) l → l ≡ shown_after (setting_at ws) (entry_at ws i) next
+    line_next h votes_before adjusts_before l index_is votes-are adjusts-are is =
         let q = (entry_at ws i).head in
         let low = (entry_sized ws i).0 in
         let below = (next_taken now.stands a).head_below in
@@ -128,12 +128,12 @@ module _ {ws : List ℕ} {i : ℕ} {heads : List (List ℕ)} {choices carried : 
         is _ row (range_test (run_in_range (heads_few stands_next) (valid_history stands_next) q below)) (fixed (setting_at ws) (valid_history stands_next) q).size_is
         ∙ ap₂ (λ (v w : Bool). line_of (entry_at ws i) v w (record_of (setting_at ws) next q)) (votes-are ∙ early_before votes h index_is) (adjusts-are ∙ early_before adjusts h index_is)
 
-    pub accepted_next : (e : Entry) (h : ℕ) (votesBefore adjustsBefore : Bool) (l : Line) → e ≡ entry_at ws i → h ≡ e.head % 16
-        → votesBefore ≡ eqb (get_or (get_or heads h []) 10 0) 1 → adjustsBefore ≡ eqb (get_or (get_or heads h []) 11 0) 1 → IsLine e votesBefore adjustsBefore (get_or rows h []) l
+    pub accepted_next : (e : Entry) (h : ℕ) (votes_before adjusts_before : Bool) (l : Line) → e ≡ entry_at ws i → h ≡ e.head % 16
+        → votes_before ≡ eqb (get_or (get_or heads h []) 10 0) 1 → adjusts_before ≡ eqb (get_or (get_or heads h []) 11 0) 1 → IsLine e votes_before adjusts_before (get_or rows h []) l
         → (After l ≡ traced ws i) × GoesOn ws i (After l) rows named read
     unfolding line_of
-    accepted_next e h votesBefore adjustsBefore l is index_is votes-are adjusts-are line =
-        let shown = line_next h votesBefore adjustsBefore l (index_is ∙ ap (λ (d : Entry). d.head % 16) is) votes-are adjusts-are (subst (λ (d : Entry). IsLine d votesBefore adjustsBefore (get_or rows h []) l) is line) in (
+    accepted_next e h votes_before adjusts_before l is index_is votes-are adjusts-are line =
+        let shown = line_next h votes_before adjusts_before l (index_is ∙ ap (λ (d : Entry). d.head % 16) is) votes-are adjusts-are (subst (λ (d : Entry). IsLine d votes_before adjusts_before (get_or rows h []) l) is line) in (
           rw (traced_run (suc i) (omega arith), stands_next.is_run, lt-ltb i (entry_count ws) (omega arith)) (ap After shown),
           λ k same. subst (λ (t : ℕ). Follows ws (i + 1) rows named read t)
               (sym (ap (λ (m : Line). m.time.0) (let z : l ≡ k = cc in sym z ∙ shown))) follows_next,

@@ -24,8 +24,8 @@ use Rattle.trace_entries.specs.Follows.{IsLine}
 outcome_in_byte : (r : HeadRecord) → outcome r % 256 ≡ outcome r
 outcome_in_byte r = let o = outcome_below r in omega arith
 
-pub line_is : (e : Entry) (votesBefore adjustsBefore : Bool) (row x : List ℕ) (c a : OptNumber) → c ≡ cut_number (number_in (get_or row 2 0)) → a ≡ cut_number (number_in (get_or row 4 0)) → IsResult row x
-    → IsLine e votesBefore adjustsBefore row
+pub line_is : (e : Entry) (votes_before adjusts_before : Bool) (row x : List ℕ) (c a : OptNumber) → c ≡ cut_number (number_in (get_or row 2 0)) → a ≡ cut_number (number_in (get_or row 4 0)) → IsResult row x
+    → IsLine e votes_before adjusts_before row
     (record {
       time = e.time;
       head = e.head;
@@ -34,10 +34,10 @@ pub line_is : (e : Entry) (votesBefore adjustsBefore : Bool) (row x : List ℕ) 
       adjuster = a;
       adjustment = record { 0 = get_or row 6 0 };
       outcome = get_or x 0 0 % 256;
-      early = record { votes = not votesBefore && eqb (get_or row 10 0) 1; adjusts = not adjustsBefore && eqb (get_or row 11 0) 1 };
+      early = record { votes = not votes_before && eqb (get_or row 10 0) 1; adjusts = not adjusts_before && eqb (get_or row 11 0) 1 };
     })
 unfolding line_of
-line_is e votesBefore adjustsBefore row x c a candidate adjuster result r is range long =
+line_is e votes_before adjusts_before row x c a candidate adjuster result r is range long =
     let facts = in_range range in
     let small = number_below r.n r.vote.choice r.vote.sent facts.heads.1 (facts.phase votes) in
     let candidate_is = candidate ∙ number_back r.vote.choice _ (own_number r is 2 (lit< tt)) (omega arith) in
@@ -45,8 +45,8 @@ line_is e votesBefore adjustsBefore row x c a candidate adjuster result r is ran
     let adjuster_is = adjuster ∙ number_back r.adjust.choice _ (own_number r is 4 (lit< tt)) (omega arith) in
     let adjustment_is = own_number r is 6 (lit< tt) in
     let outcome_is = ap (λ (l : List ℕ). get_or l 0 0 % 256) (result r is range long) ∙ outcome_in_byte r in
-    let votes-are = ap (λ (b : Bool). not votesBefore && b) (early_read r votes is) in
-    let adjusts-are = ap (λ (b : Bool). not adjustsBefore && b) (early_read r adjusts is) in
+    let votes-are = ap (λ (b : Bool). not votes_before && b) (early_read r votes is) in
+    let adjusts-are = ap (λ (b : Bool). not adjusts_before && b) (early_read r adjusts is) in
     λ i. record {
       time = e.time;
       head = e.head;

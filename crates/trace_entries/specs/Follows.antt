@@ -29,4 +29,4 @@ GoesOn ws i t heads choices carried = (l : Line) → t ≡ After l → Follows w
 
 -- l is the line of the entry, for the record in its ranges that the row is of
 abbrev pub IsLine : Entry → Bool → Bool → List ℕ → Line → Type 0
-IsLine e votesBefore adjustsBefore row l = (r : HeadRecord) → row ≡ row_of r → record_in_range r ≡ true → length r.senders ≡ 16 → l ≡ line_of e votesBefore adjustsBefore r
+IsLine e votes_before adjusts_before row l = (r : HeadRecord) → row ≡ row_of r → record_in_range r ≡ true → length r.senders ≡ 16 → l ≡ line_of e votes_before adjusts_before r

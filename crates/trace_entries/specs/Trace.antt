@@ -13,7 +13,7 @@ use Rattle.trace_entries.specs.declared.Traced.TheVariants.{After, RefusedAt, En
 
 -- the head's record after the entry, and whether it had closed its votes and its adjust phase early before
 unfoldable pub line_of : Entry → Bool → Bool → HeadRecord → Line
-line_of e votesBefore adjustsBefore r =
+line_of e votes_before adjusts_before r =
     record {
       time = e.time;
       head = e.head;
@@ -22,7 +22,7 @@ line_of e votesBefore adjustsBefore r =
       adjuster = r.adjust.choice;
       adjustment = r.adjustment;
       outcome = outcome r;
-      early = record { votes = not votesBefore && r.vote.early; adjusts = not adjustsBefore && r.adjust.early };
+      early = record { votes = not votes_before && r.vote.early; adjusts = not adjusts_before && r.adjust.early };
     }
 
 -- the history before its last event

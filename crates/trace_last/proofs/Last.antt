@@ -12,10 +12,10 @@ use Rattle.protocol.specs.declared.Verdict.TheVariants.{Accepted, Refused}
 use Rattle.protocol.specs.declared.Judged.{Judged}
 use Rattle.protocol.specs.declared.Judged.TheVariants.{Kept, Broken, Unjudged}
 use Rattle.protocol.specs.Words.{setting_at}
-use Rattle.protocol.specs.Run.{History, Run, stopped, ran, run_sheet}
+use Rattle.protocol.specs.Run.{Run, stopped, ran, run_sheet}
 use Rattle.protocol.specs.Premises.{premises, first_broken, judge_run, judge, is_asked_at_end, broken_at}
-use Rattle.protocol.specs.Program.{big_endian, bytes_verdict, refused_line, premises_line, broken_line, premises_where, last_line_of, last_line, last_line_after, last_line_of_bytes}
-use Rattle.protocol.proofs.Tests.{absurd-bool, cases}
+use Rattle.protocol.specs.Program.{big_endian, bytes_verdict, refused_line, premises_line, broken_line, last_line_of, last_line, last_line_after, last_line_of_bytes}
+use Rattle.protocol.proofs.Tests.{absurd_bool, cases}
 use Rattle.print_text.specs.Written.{written}
 use Rattle.print_text.proofs.Texts.{Wrote, from_first}
 use Rattle.print_lines.proofs.Lengths.{refused_short, premises_short, broken_short}
@@ -37,7 +37,7 @@ no_entry_lem i k m e = rw e refl
 
 not_first : (i : ℕ) → is_asked_at_end i ≡ false → 1 ≤ i → 1 < i
 not_first zero e l = absurd (omega arith)
-not_first (suc zero) e l = absurd-bool refl e
+not_first (suc zero) e l = absurd_bool refl e
 not_first (suc (suc i)) e l = omega arith
 
 module _ (ws : List ℕ) (j : Judged) (is : j ≡ judge ws) where

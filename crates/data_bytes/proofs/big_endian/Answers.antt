@@ -21,4 +21,4 @@ loop-i-preserved c =
 pub returns : goal.returns
 returns c =
     let inv = c.loop-i.invariant in
-    record { value = sym inv.1; result_value = λ few. whole_words _ c.loop-i.words inv.1 (λ k lt. inv.2 k (omega arith)) few }
+    record { room = sym inv.1; words = λ few. whole_words _ c.loop-i.words inv.1 (λ k lt. inv.2 k (omega arith)) few }

@@ -1,7 +1,7 @@
 use mathlib.Core.Path.{sym, ◌∙◌, ap}
 use Prim.Native.Nat.{◌<◌}
 use Rattle.protocol.specs.declared.Setting.{Setting}
-use Rattle.protocol.proofs.Tests.{absurd-bool}
+use Rattle.protocol.proofs.Tests.{absurd_bool}
 use Rattle.sheet_open.proofs.Open.{in_table}
 use Rattle.judge_run.proofs.Loop.{first_keeps, run_refused, pass_refused, found_index, keeps_next, pass_ends}
 use Rattle.judge_run.proofs.Where.{before_first, one_on, here, all_kept, refused_anyway}
@@ -44,7 +44,7 @@ returns-then-is_broken c =
     let r = c.read_entry-r.ensures in
     let k = keeps_next _ _ _ _ _ _ _ _ _ _ _ _ _ l.invariant.1 _ _ r.0 r.1 _ c.entry_verdict-v.ensures c.in-Accepted.is c.requires.3 _ _ _ _ c.breaks-k.ensures _ _ _ c.take_entry.ensures _ _ c.keeps_premise_2-steady.result c.keeps_premise_2-steady.ensures in
     let tells = c.is_broken.ensures in (
-      λ none. absurd-bool c.if-is_broken.true (tells.never none),
+      λ none. absurd_bool c.if-is_broken.true (tells.never none),
       here _ _ _ _ l.invariant.2 k.history k.stands.is_run _ _ k.steady_is k.judge_state.found_is _ tells c.if-is_broken.true _ c.loop-i-test.true,
     )
 

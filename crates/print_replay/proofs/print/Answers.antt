@@ -7,10 +7,10 @@ use native.Mathlib.Omega.{arith}
 use Rattle.print_replay.proofs.print.Goals as goal
 
 pub slice_bounds-words-end : goal.slice_bounds-words-end
-slice_bounds-words-end c = let few = (accepted_words _ c.big_endian-words.result _ c.bytes_verdict-v.ensures c.in-Accepted.is c.big_endian-words.ensures.value).0 in omega arith
+slice_bounds-words-end c = let few = (accepted_words _ c.big_endian-words.result _ c.bytes_verdict-v.ensures c.in-Accepted.is c.big_endian-words.ensures.room).0 in omega arith
 
 pub slice_bounds-print_sheet-end : goal.slice_bounds-print_sheet-end
-slice_bounds-print_sheet-end c = (accepted_words _ c.big_endian-words.result _ c.bytes_verdict-v.ensures c.in-Accepted.is c.big_endian-words.ensures.value).1
+slice_bounds-print_sheet-end c = (accepted_words _ c.big_endian-words.result _ c.bytes_verdict-v.ensures c.in-Accepted.is c.big_endian-words.ensures.room).1
 
 pub returns-in-Refused : goal.returns-in-Refused
 returns-in-Refused c =
@@ -21,5 +21,5 @@ pub returns-in-Accepted : goal.returns-in-Accepted
 returns-in-Accepted c =
     let s = c.args in
     let accepted = c.in-Accepted.is in
-    let words = c.big_endian-words.ensures.result_value (few_bytes _ (sym c.bytes_verdict-v.ensures ∙ accepted)) in
+    let words = c.big_endian-words.ensures.words (few_bytes _ (sym c.bytes_verdict-v.ensures ∙ accepted)) in
     prints s.bytes.now s.out.now _ _ _ (prints_sheet s.bytes.now _ c.bytes_verdict-v.ensures accepted _ words) c.print_sheet.ensures

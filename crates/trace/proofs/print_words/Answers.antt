@@ -4,7 +4,7 @@ use native.Mathlib.Omega.{arith}
 use Rattle.trace.proofs.print_words.Goals as goal
 
 pub slice_bounds-words-end : goal.slice_bounds-words-end
-slice_bounds-words-end g c = let few = (accepted_words _ c.big_endian-words.result _ c.bytes_verdict-v.ensures c.in-Accepted.is c.big_endian-words.ensures.value).0 in omega arith
+slice_bounds-words-end g c = let few = (accepted_words _ c.big_endian-words.result _ c.bytes_verdict-v.ensures c.in-Accepted.is c.big_endian-words.ensures.room).0 in omega arith
 
 pub slice_bounds-print_sheet-end : goal.slice_bounds-print_sheet-end
-slice_bounds-print_sheet-end g c = (accepted_words _ c.big_endian-words.result _ c.bytes_verdict-v.ensures c.in-Accepted.is c.big_endian-words.ensures.value).1
+slice_bounds-print_sheet-end g c = (accepted_words _ c.big_endian-words.result _ c.bytes_verdict-v.ensures c.in-Accepted.is c.big_endian-words.ensures.room).1

@@ -2,7 +2,6 @@
 use Rattle.judge_run.proofs.Ready.{has_two, ready}
 use Rattle.judge_run.proofs.Where.{of_sheet, turned_back}
 use native.Mathlib.Omega.{arith}
-use borrow.Author.Rules.{rules}
 use Rattle.trace_broken.proofs.broken_at.Goals as goal
 
 pub setting_at-g-requires : goal.setting_at-g-requires

@@ -1,6 +1,5 @@
 -- `put_sheet_line`: one line for each answer of the judge.
 use Rattle.trace_last.proofs.Last.{kept_line, broken_line_lem, refused_line_lem}
-use borrow.Author.Rules.{rules}
 use Rattle.trace_last.proofs.put_sheet_line.Goals as goal
 
 pub returns-in-Kept : goal.returns-in-Kept

@@ -1,5 +1,4 @@
 -- `put_adjustment`: `-`, or the number.
-use borrow.Author.Rules.{rules}
 use Rattle.trace_text.proofs.put_adjustment.Goals as goal
 
 pub returns-in-NoNumber : goal.returns-in-NoNumber

@@ -1,5 +1,4 @@
 -- `put_choice`: `-`, or the number.
-use borrow.Author.Rules.{rules}
 use Rattle.trace_text.proofs.put_choice.Goals as goal
 
 pub returns-in-NoNumber : goal.returns-in-NoNumber

@@ -1,5 +1,4 @@
 -- `put_early`: the word for each of the four cases.
-use borrow.Author.Rules.{rules}
 use Rattle.trace_text.proofs.put_early.Goals as goal
 
 pub returns-then-adjusts : goal.returns-then-adjusts

@@ -3,7 +3,6 @@ use mathlib.Core.List.{[], ◌∷◌}
 use Rattle.protocol.specs.Program.{decimal}
 use Rattle.trace_text.specs.Text.{fields}
 use Rattle.trace_text.proofs.Fields.{field_next}
-use borrow.Author.Rules.{rules}
 use Rattle.trace_text.proofs.put_entry.Goals as goal
 
 pub returns : goal.returns

@@ -4,7 +4,6 @@ use Rattle.protocol.specs.Program.{decimal, line}
 use Rattle.print_lines.proofs.Lines.{and_then, field_then, last_field}
 use Rattle.trace_text.specs.Text.{number_text, choice_text, early_text, entry_fields, entry_text}
 use Rattle.trace_text.proofs.Fields.{fields_line, entry_line_written}
-use borrow.Author.Rules.{rules}
 use Rattle.trace_text.proofs.put_entry_line.Goals as goal
 
 pub returns : goal.returns
