@@ -208,10 +208,14 @@ static void spoil(daisarnica_input *x)
     memcpy(x, field, sizeof field);
 }
 
-/* A number of the record becomes another: by a bit, by one, or any. The first sixteen are the head's own. */
+/* Where a record has the head's own numbers, and where sixteen by sender begin. */
+static const uint8_t own_at[16] = {0, 1, 2, 3, 4, 5, 6, 7, 8, 9, 42, 43, 44, 77, 78, 79};
+static const uint8_t senders_at[6] = {10, 26, 45, 61, 80, 96};
+
+/* A number of the record becomes another: by a bit, by one, or any. */
 static void damage(void)
 {
-    uint32_t *number = &head.opaque[pick(one_in(2) ? 16 : NUMBERS)];
+    uint32_t *number = &head.opaque[one_in(2) ? own_at[pick(16)] : pick(NUMBERS)];
 
     switch (pick(4)) {
     case 0: *number ^= 1u << pick(one_in(2) ? 8 : 32); break;
@@ -221,10 +225,10 @@ static void damage(void)
     }
 }
 
-/* The others are six of each sender, field after field. One field becomes alike for all heads, as when all have spoken. */
+/* One number by sender becomes alike for all heads, as when all have spoken. */
 static void damage_alike(void)
 {
-    uint32_t *number = &head.opaque[16 + 16 * pick(6)], same = 1 + pick(known.n), i;
+    uint32_t *number = &head.opaque[senders_at[pick(6)]], same = 1 + pick(known.n), i;
 
     for (i = 0; i < known.n; i++) number[i] = same;
 }

@@ -7,13 +7,37 @@ use crate::record::{Kept, Record};
 use crate::step::{step, Frame, Input};
 use crate::words::{counts_allowed, Cause, Reading, MAX_HEADS, TIME_LIMIT};
 
-/// The memory of a head: last reading, marks, candidate, votes, adjuster, adjusts,
-/// adjustment, n, f, own number, vote closed early, adjust phase closed early, four
-/// zeros; then by sender, field after field, start reading, vote reading, vote
-/// serial, adjust serial, latest vote and latest adjust.
+/// The memory of a head; `at` says where it has what.
 pub type Head = [u32; NUMBERS];
 /// How many numbers a head's memory has.
 pub const NUMBERS: usize = 112;
+
+/// Where a head's memory has what. Readings, serials and latest frames stand by sender.
+pub mod at {
+    use std::ops::Range;
+
+    pub const LAST: usize = 0;
+    pub const MARKS: usize = 1;
+    pub const ADJUSTMENT: usize = 2;
+    pub const N: usize = 3;
+    pub const F: usize = 4;
+    pub const OWN: usize = 5;
+    /// Four zeros.
+    pub const SPARE: Range<usize> = 6..10;
+    pub const START_READINGS: Range<usize> = 10..26;
+    pub const VOTE_READINGS: Range<usize> = 26..42;
+    pub const CANDIDATE: usize = 42;
+    pub const VOTES_SENT: usize = 43;
+    pub const VOTE_EARLY: usize = 44;
+    pub const VOTE_SERIALS: Range<usize> = 45..61;
+    pub const LATEST_VOTES: Range<usize> = 61..77;
+    pub const ADJUSTER: usize = 77;
+    pub const ADJUSTS_SENT: usize = 78;
+    pub const ADJUST_EARLY: usize = 79;
+    pub const ADJUST_SERIALS: Range<usize> = 80..96;
+    pub const LATEST_ADJUSTS: Range<usize> = 96..112;
+}
+
 /// Action, reading, sender, serial, choice, carried, and the mark "none".
 pub type InputNumbers = [u32; 7];
 
@@ -74,41 +98,41 @@ const MARKS: [u32; 7] = [1, 2, 4, 8, 16, 32, 64];
 pub fn record_in(head: &Head) -> Option<Record> {
     let mut kept = [Kept::default(); MAX_HEADS];
     for (p, kept) in kept.iter_mut().enumerate() {
-        kept.start_reading = number(head[16 + p]).map(Reading);
-        kept.vote_reading = number(head[32 + p]).map(Reading);
-        kept.vote_serial = number(head[48 + p]);
-        kept.adjust_serial = number(head[64 + p]);
-        kept.latest_vote = number(head[80 + p]);
-        kept.latest_adjust = number(head[96 + p]);
+        kept.start_reading = number(head[at::START_READINGS.start + p]).map(Reading);
+        kept.vote_reading = number(head[at::VOTE_READINGS.start + p]).map(Reading);
+        kept.vote_serial = number(head[at::VOTE_SERIALS.start + p]);
+        kept.adjust_serial = number(head[at::ADJUST_SERIALS.start + p]);
+        kept.latest_vote = number(head[at::LATEST_VOTES.start + p]);
+        kept.latest_adjust = number(head[at::LATEST_ADJUSTS.start + p]);
     }
-    let marks = head[1];
+    let marks = head[at::MARKS];
     let [start_sent, confirmed, vote_turn, vote_close, adjust_turn, adjust_close, candidate] =
         MARKS.map(|weight| marks & weight != 0);
-    if marks >= 128 || candidate != (head[2] != 0) {
+    if marks >= 128 || candidate != (head[at::CANDIDATE] != 0) {
         return None;
     }
-    if head[10] > 1 || head[11] > 1 || head[12..16] != [0; 4] {
+    if head[at::VOTE_EARLY] > 1 || head[at::ADJUST_EARLY] > 1 || head[at::SPARE] != [0; 4] {
         return None;
     }
     Some(Record {
-        n: head[7],
-        f: head[8],
-        own: head[9],
-        last_reading: Reading(head[0]),
+        n: head[at::N],
+        f: head[at::F],
+        own: head[at::OWN],
+        last_reading: Reading(head[at::LAST]),
         kept,
-        candidate: number(head[2]),
-        adjuster: number(head[4]),
-        adjustment: Reading(head[6]),
-        votes_sent: head[3],
-        adjusts_sent: head[5],
+        candidate: number(head[at::CANDIDATE]),
+        adjuster: number(head[at::ADJUSTER]),
+        adjustment: Reading(head[at::ADJUSTMENT]),
+        votes_sent: head[at::VOTES_SENT],
+        adjusts_sent: head[at::ADJUSTS_SENT],
         start_sent,
         confirmed,
         vote_turn,
         vote_close,
         adjust_turn,
         adjust_close,
-        vote_early: head[10] == 1,
-        adjust_early: head[11] == 1,
+        vote_early: head[at::VOTE_EARLY] == 1,
+        adjust_early: head[at::ADJUST_EARLY] == 1,
     })
 }
 
@@ -116,10 +140,14 @@ pub fn record_in(head: &Head) -> Option<Record> {
 /// every latest adjust the adjuster (`delivery` 8), whoever it is. If that phase is
 /// open, the next action that is not without effect closes it early.
 pub fn all_spoken(head: &Head, delivery: u32) -> Head {
-    let (choice, first) = if delivery == 5 { (2, 80) } else { (4, 96) };
+    let (choice, latest) = if delivery == 5 {
+        (at::CANDIDATE, at::LATEST_VOTES)
+    } else {
+        (at::ADJUSTER, at::LATEST_ADJUSTS)
+    };
     let mut spoken = *head;
-    let n = (head[7] as usize).min(MAX_HEADS);
-    spoken[first..first + n].fill(head[choice]);
+    let n = (head[at::N] as usize).min(MAX_HEADS);
+    spoken[latest][..n].fill(head[choice]);
     spoken
 }
 
@@ -128,8 +156,8 @@ pub fn all_spoken(head: &Head, delivery: u32) -> Head {
 /// reading has to be voted for the candidate (document 02, No. 5).
 pub fn with_vote(head: &Head, sender: usize, reading: u32, named: u32) -> Head {
     let mut voted = *head;
-    voted[32 + sender] = reading;
-    voted[80 + sender] = named;
+    voted[at::VOTE_READINGS.start + sender] = reading;
+    voted[at::LATEST_VOTES.start + sender] = named;
     voted
 }
 
@@ -138,18 +166,18 @@ pub fn with_vote(head: &Head, sender: usize, reading: u32, named: u32) -> Head {
 pub fn edges(index: usize, record: &Record) -> [u32; 9] {
     let n = record.n;
     let top = match index {
-        0 | 6 => TIME_LIMIT - 1,
-        1 => 127,
-        2 | 4 => n,
-        3 => n.saturating_sub(record.candidate.unwrap_or(n)),
-        5 => n.saturating_sub(record.adjuster.unwrap_or(n)),
-        7 => MAX_HEADS as u32,
-        8 => n.saturating_sub(1) / 2,
-        9 => n.saturating_sub(1),
-        10 | 11 => 1,
-        12..=15 => 0,
-        16..=47 => TIME_LIMIT,
-        48..=79 => 16,
+        at::LAST | at::ADJUSTMENT => TIME_LIMIT - 1,
+        at::MARKS => 127,
+        at::CANDIDATE | at::ADJUSTER => n,
+        at::VOTES_SENT => n.saturating_sub(record.candidate.unwrap_or(n)),
+        at::ADJUSTS_SENT => n.saturating_sub(record.adjuster.unwrap_or(n)),
+        at::N => MAX_HEADS as u32,
+        at::F => n.saturating_sub(1) / 2,
+        at::OWN => n.saturating_sub(1),
+        at::VOTE_EARLY | at::ADJUST_EARLY => 1,
+        i if at::SPARE.contains(&i) => 0,
+        i if at::START_READINGS.contains(&i) || at::VOTE_READINGS.contains(&i) => TIME_LIMIT,
+        i if at::VOTE_SERIALS.contains(&i) || at::ADJUST_SERIALS.contains(&i) => 16,
         _ => n,
     };
     let below = top.saturating_sub(1);

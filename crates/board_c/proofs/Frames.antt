@@ -1,5 +1,6 @@
 -- A frame's numbers for C from those that a row has, and the correction by a result's numbers.
 -- Main results: `vote_of_none`, `vote_of_reading`, `other_frame`; `adopted_correction`, `no_correction`.
+use Rattle.std.specs.Prelude.{Some, None}
 use mathlib.Core.Path.{◌≡◌, refl, sym, ◌∙◌, ap}
 use mathlib.Core.Bool.{true}
 use mathlib.Core.List.{List, [], ◌∷◌}
@@ -11,10 +12,9 @@ use lib.ListN.{get_or}
 use lib.IntN.{ℤ, pos, sub_ℕ}
 use borrow.Author.Tests.{lt-ltb, eq-eqb, ne_eqb}
 use Rattle.protocol.specs.declared.Reading.{Reading}
-use Rattle.protocol.specs.declared.OptReading.TheVariants.{NoReading, SomeReading}
 use Rattle.protocol.specs.declared.HeadRecord.{HeadRecord}
-use Rattle.protocol.specs.declared.Frame.TheVariants.{NoFrame, Start, Vote, Adjust}
-use Rattle.protocol.specs.declared.Sent.{Sent}
+use Rattle.protocol.specs.Types.{NoFrame, Start, Vote, Adjust}
+use Rattle.head_row.specs.declared.Sent.{Sent}
 use Rattle.protocol.specs.Record.{outcome, correction}
 use Rattle.protocol.specs.Row.{reading_plus1}
 use Rattle.protocol.specs.Board.{result_numbers}
@@ -22,23 +22,23 @@ use Rattle.board_c.specs.Numbers.{AreNumbers, IsCorrection}
 
 -- FRAMES
 
-plus_1 : (x : Reading) → x.0 < 2 ^ 28 → reading_plus1 (SomeReading x) ≡ x.0 + 1
+plus_1 : (x : Reading) → x.0 < 2 ^ 28 → reading_plus1 (Some x) ≡ x.0 + 1
 plus_1 x h = rw (lt-ltb _ _ h) refl
 
 module _ (s : Sent) where
   pub vote_of_none : s.kind ≡ 5 → s.carried ≡ 0 → AreNumbers s (5 ∷ s.serial ∷ s.choice ∷ 0 ∷ 1 ∷ [])
   vote_of_none k z NoFrame h is = absurd (let e = ap (λ (t : Sent). t.kind) is in omega arith)
   vote_of_none k z Start h is = absurd (let e = ap (λ (t : Sent). t.kind) is in omega arith)
-  vote_of_none k z (Vote j c NoReading) h is = rw is refl
-  vote_of_none k z (Vote j c (SomeReading x)) h is = absurd (let e = sym z ∙ ap (λ (t : Sent). t.carried) is ∙ plus_1 x h in omega arith)
+  vote_of_none k z (Vote j c None) h is = rw is refl
+  vote_of_none k z (Vote j c (Some x)) h is = absurd (let e = sym z ∙ ap (λ (t : Sent). t.carried) is ∙ plus_1 x h in omega arith)
   vote_of_none k z (Adjust j c x) h is = absurd (let e = ap (λ (t : Sent). t.kind) is in omega arith)
 
   pub vote_of_reading : s.kind ≡ 5 → s.carried ≢ 0 → AreNumbers s (5 ∷ s.serial ∷ s.choice ∷ (s.carried - 1) ∷ 0 ∷ [])
   vote_of_reading k z NoFrame h is = absurd (let e = ap (λ (t : Sent). t.kind) is in omega arith)
   vote_of_reading k z Start h is = absurd (let e = ap (λ (t : Sent). t.kind) is in omega arith)
-  vote_of_reading k z (Vote j c NoReading) h is = absurd (z (ap (λ (t : Sent). t.carried) is))
-  vote_of_reading k z (Vote j c (SomeReading x)) h is =
-      let back : reading_plus1 (SomeReading x) - 1 ≡ x.0 = ap (λ (m : ℕ). m - 1) (plus_1 x h) ∙ omega arith in
+  vote_of_reading k z (Vote j c None) h is = absurd (z (ap (λ (t : Sent). t.carried) is))
+  vote_of_reading k z (Vote j c (Some x)) h is =
+      let back : reading_plus1 (Some x) - 1 ≡ x.0 = ap (λ (m : ℕ). m - 1) (plus_1 x h) ∙ omega arith in
       rw is (ap (λ (m : ℕ). 5 ∷ j ∷ c ∷ m ∷ 0 ∷ []) back)
   vote_of_reading k z (Adjust j c x) h is = absurd (let e = ap (λ (t : Sent). t.kind) is in omega arith)
 

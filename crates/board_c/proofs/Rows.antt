@@ -9,19 +9,19 @@ use native.Mathlib.Omega.{arith}
 use lib.ListN.{length, get_or}
 use lib.IntN.{ℤ, pos}
 use Rattle.protocol.specs.declared.HeadRecord.{HeadRecord}
+use Rattle.protocol.specs.declared.HeadRow.{HeadRow}
 use Rattle.protocol.specs.declared.Input.{Input}
-use Rattle.protocol.specs.declared.Sent.{Sent}
+use Rattle.head_row.specs.declared.Sent.{Sent}
 use Rattle.protocol.specs.declared.Stepped.{Stepped}
 use Rattle.protocol.specs.declared.Cause.{Cause}
 use Rattle.protocol.specs.declared.Cause.TheVariants.{BadRecord}
-use Rattle.protocol.specs.declared.Verdict.{Verdict}
-use Rattle.protocol.specs.declared.Verdict.TheVariants.{Accepted, Refused}
-use Rattle.protocol.specs.declared.Frame.TheVariants.{NoFrame}
+use Rattle.protocol.specs.Types.{Verdict, Accepted, Refused, NoFrame}
 use Rattle.protocol.specs.Record.{reading, reading_or0, fresh, record_in_range}
 use Rattle.protocol.specs.Step.{with_last, act, taken_as, action_of, step, refused}
 use Rattle.protocol.specs.Run.{carried_reading}
 use Rattle.protocol.specs.Causes.{cause_number, verdict_number}
-use Rattle.protocol.specs.Row.{row_length, row_of, record_in, row_fits, row_in_range, sent_of}
+use Rattle.protocol.specs.Row.{row_of, record_in, row_fits, row_in_range}
+use Rattle.head_row.specs.Sent.{sent_of}
 use Rattle.protocol.specs.Board.{fresh_verdict, fresh_row, row_step, row_after, frame_numbers, row_verdict, result_if, correction_if}
 use Rattle.protocol.proofs.Tests.{and_right}
 use Rattle.protocol.proofs.Fits.{input_fits_lem}
@@ -34,10 +34,11 @@ use Rattle.head_ranges.proofs.Back.{row_of_record}
 use Rattle.head_causes.proofs.Taken.{AcceptedStep, accepted_step}
 use Rattle.head_result.specs.Result.{IsResult}
 use Rattle.board_c.specs.Numbers.{AreNumbers, IsCorrection}
+use Rattle.head_ranges.specs.Parts.{Sized}
 
 -- A ROW IN ITS RANGES
 
-module _ (w : List ℕ) (long : length w ≡ row_length) (h : row_in_range w ≡ true) where
+module _ (w : HeadRow) (long : Sized w) (h : row_in_range w ≡ true) where
   record_ranged : record_in_range (record_in w) ≡ true
   unfolding row_in_range
   record_ranged = and_right (row_fits w) _ h
@@ -48,11 +49,11 @@ module _ (w : List ℕ) (long : length w ≡ row_length) (h : row_in_range w ≡
 
 -- AN ACTION
 
-module _ (w : List ℕ) (i : Input) where
+module _ (w : HeadRow) (i : Input) where
   abbrev acts : HeadRecord → Stepped
   acts r = act (with_last r (reading i.reading)) (taken_as r (action_of i))
 
-  module _ (long : length w ≡ row_length) (v : Verdict) (is : v ≡ (row_step w i).verdict) (e : v ≡ Accepted) where
+  module _ (long : Sized w) (v : Verdict) (is : v ≡ (row_step w i).verdict) (e : v ≡ Accepted) where
     taken : AcceptedStep w i
     taken = accepted_step w i (sym is ∙ e)
 
@@ -62,20 +63,20 @@ module _ (w : List ℕ) (i : Input) where
     sized : InputSized i
     unfolding record_in
     sized =
-        let f = input_fits_lem (get_or w 7 0) i taken.input_fits_lem in
+        let f = input_fits_lem w.heads i taken.input_fits_lem in
         let n = record_in_range_lem.heads.1 in
         let p = f.sender in
         let k = f.serial in
         let c = f.choice in
         record { reading = f.reading; sender = omega arith; serial = omega arith; choice = omega arith; carried = f.carried }
 
-    frame_in_range : FrameInRange (get_or w 7 0) (acts (record_in w)).frame
+    frame_in_range : FrameInRange w.heads (acts (record_in w)).frame
     unfolding record_in
     frame_in_range =
-        let x = input_in_range (get_or w 7 0) i taken.input_fits_lem in
-        subst (λ (t : Stepped). FrameInRange (get_or w 7 0) t.frame) taken.takes (take_in_range (reading i.reading) true (action_of i) record_in_range_lem x.0 x.1).1
+        let x = input_in_range w.heads i taken.input_fits_lem in
+        subst (λ (t : Stepped). FrameInRange w.heads t.frame) taken.takes (take_in_range (reading i.reading) true (action_of i) record_in_range_lem x.0 x.1).1
 
-    pub action_taken : (after : List ℕ) (s : Sent) → (InputSized i → Acts acts w after s) → (numbers : List ℕ) → AreNumbers s numbers
+    pub action_taken : (after : HeadRow) (s : Sent) → (InputSized i → Acts acts w after s) → (numbers : List ℕ) → AreNumbers s numbers
         → (0 ≡ verdict_number (row_step w i).verdict) × (after ≡ row_after w (row_step w i)) × (numbers ≡ frame_numbers (row_step w i).frame)
     action_taken after s does numbers are =
         let row_is = row_of_record w long taken.row_in_range_lem in
@@ -102,8 +103,8 @@ module _ (w : List ℕ) (i : Input) where
 
 -- THE RESULT
 
-module _ (w : List ℕ) (b : Bool) (is : b ≡ row_in_range w) where
-  pub result_read : length w ≡ row_length → b ≡ true → (x : List ℕ) → IsResult w x → (0 ≡ verdict_number (row_verdict w)) × (x ≡ result_if (row_verdict w) (record_in w))
+module _ (w : HeadRow) (b : Bool) (is : b ≡ row_in_range w) where
+  pub result_read : Sized w → b ≡ true → (x : List ℕ) → IsResult w x → (0 ≡ verdict_number (row_verdict w)) × (x ≡ result_if (row_verdict w) (record_in w))
   unfolding row_verdict
   result_read long e x result =
       let h = sym is ∙ e in
@@ -113,7 +114,7 @@ module _ (w : List ℕ) (b : Bool) (is : b ≡ row_in_range w) where
   unfolding row_verdict
   not_in_range e = rw (sym is ∙ e) (refl, refl)
 
-  pub correction_read : length w ≡ row_length → b ≡ true → (x : List ℕ) → IsResult w x → (z : ℤ) → IsCorrection x z → z ≡ correction_if (row_verdict w) (record_in w)
+  pub correction_read : Sized w → b ≡ true → (x : List ℕ) → IsResult w x → (z : ℤ) → IsCorrection x z → z ≡ correction_if (row_verdict w) (record_in w)
   unfolding row_verdict
   correction_read long e x result z corrects =
       let h = sym is ∙ e in
@@ -125,8 +126,8 @@ module _ (w : List ℕ) (b : Bool) (is : b ≡ row_in_range w) where
 
 -- A FRESH RECORD
 
-module _ (w : List ℕ) (n f own : ℕ) (v : Verdict) (is : v ≡ fresh_verdict n f own) where
-  pub fresh_made : v ≡ Accepted → (row : List ℕ) → row ≡ row_of (fresh n f own) → (0 ≡ verdict_number (fresh_verdict n f own)) × (row ≡ fresh_row w n f own)
+module _ (w : HeadRow) (n f own : ℕ) (v : Verdict) (is : v ≡ fresh_verdict n f own) where
+  pub fresh_made : v ≡ Accepted → (row : HeadRow) → row ≡ row_of (fresh n f own) → (0 ≡ verdict_number (fresh_verdict n f own)) × (row ≡ fresh_row w n f own)
   fresh_made e row made = rw (sym is ∙ e) (refl, made)
 
   pub fresh_refused : (c : Cause) → v ≡ Refused c → (k : ℕ) → k ≡ cause_number c → (k ≡ verdict_number (fresh_verdict n f own)) × (w ≡ fresh_row w n f own)

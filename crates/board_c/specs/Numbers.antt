@@ -1,11 +1,11 @@
 -- What numbers stand for, where they are made from other numbers.
 use Rattle.std.specs.Prelude.{◌≡◌, List, ℕ, ◌^◌, ◌<◌, ℤ}
 use Rattle.protocol.specs.declared.HeadRecord.{HeadRecord}
-use Rattle.protocol.specs.declared.Frame.{Frame}
-use Rattle.protocol.specs.declared.Sent.{Sent}
+use Rattle.protocol.specs.Types.{Frame}
+use Rattle.head_row.specs.declared.Sent.{Sent}
 use Rattle.protocol.specs.Record.{reading_or0}
 use Rattle.protocol.specs.Run.{carried_reading}
-use Rattle.protocol.specs.Row.{sent_of}
+use Rattle.head_row.specs.Sent.{sent_of}
 use Rattle.protocol.specs.Board.{frame_numbers, result_numbers, correction_if_adopted}
 
 -- of the frame that s is of

@@ -1,32 +1,24 @@
 // What a board written in C gives and gets, in numbers.
-ghost use Rattle.std.specs.Prelude.{◌≡◌, cond, ltb, length};
+ghost use Rattle.std.specs.Prelude.{◌≡◌, cond, ltb};
 ghost use Rattle.protocol.specs.Board.{fresh_verdict, input_in};
-ghost use Rattle.protocol.specs.Row.{row_length};
 ghost use Rattle.board_c.specs.Numbers.{AreNumbers, IsCorrection};
 
 use data_values::difference;
-use head_ranges::heads_fit;
-use protocol::{Cause, Input, ROW_LENGTH, Row, Sent, Verdict};
+use data_words::heads_fit;
+use head_row::Sent;
+use protocol::{Cause, Input};
 
-// The length of a row, which a reference to one does not say by itself. Nothing of it is left in the machine code.
-pub fn row_length(row: Row) -> usize
-    ensures { (result ≡ row_length) × (length row ≡ row_length) }
-{
-    ROW_LENGTH
-}
-
-// Cause 3 if n or f is against the first word's rules, 6 if own is not below n.
-pub fn fresh_verdict(n: u32, f: u32, own: u32) -> Verdict
+/// Cause 3 if n or f is against the first word's rules, 6 if own is not below n.
+pub fn fresh_verdict(n: u32, f: u32, own: u32) -> Result<(), Cause>
     ensures { result ≡ fresh_verdict n f own }
 {
-    if heads_fit(n, f) {
-        if own < n {
-            Verdict::Accepted
-        } else {
-            Verdict::Refused(Cause::BadEntry)
-        }
+    if !heads_fit(n, f) {
+        return Err(Cause::BadFirstWord);
+    }
+    if own < n {
+        Ok(())
     } else {
-        Verdict::Refused(Cause::BadFirstWord)
+        Err(Cause::BadEntry)
     }
 }
 
@@ -36,7 +28,7 @@ fn action_in(action: u32, none: u32) -> u32
     if none < 2 { action } else { 10 }
 }
 
-// A mark that is neither 0 nor 1 makes the number of no action.
+/// A mark that is neither 0 nor 1 makes the number of no action.
 pub fn input_in(xs: &[u32; 7]) -> Input
     ensures { result ≡ input_in xs.now }
 {
@@ -51,7 +43,7 @@ pub fn input_in(xs: &[u32; 7]) -> Input
     }
 }
 
-// A frame as C has it: a vote's reading and the mark "none" apart.
+/// A frame as C has it: a vote's reading and the mark "none" apart.
 pub fn frame_numbers(s: Sent) -> [u32; 5]
     ensures { AreNumbers s result }
 {
@@ -64,7 +56,7 @@ pub fn frame_numbers(s: Sent) -> [u32; 5]
     [s.kind, s.serial, s.choice, s.carried, 0]
 }
 
-// The correction by the numbers of a result.
+/// The correction by the numbers of a result.
 pub fn correction_of(x: [u32; 5]) -> i64
     ensures { IsCorrection x result }
 {

@@ -1,17 +1,11 @@
-// What the replay program prints, for many sheets: on standard input, for each sheet, the number of its bytes as a
-// big-endian word, then its bytes.
+//! What the replay program prints, for many sheets: on standard input, for each sheet, the number of its bytes as a
+//! big-endian word, then its bytes.
 #![tactic(auto)]
 
 use data_bytes::word_at;
-use print_replay::print;
+use print_replay::Printout;
 use read_input::fill;
 use std::io::{self, Read};
-
-fn print_sheet(rt: &impl Print, bytes: &[u8]) -> io::Result<()> {
-    let mut out = [0u8; 1024];
-    let m = print(bytes, &mut out);
-    rt.write_all(&out[..m])
-}
 
 // Prints the next sheet, and answers whether there was one.
 fn print_next(rt: &impl Print, input: &mut impl Read) -> io::Result<bool> {
@@ -25,7 +19,8 @@ fn print_next(rt: &impl Print, input: &mut impl Read) -> io::Result<bool> {
     }
     let mut buffer = [0u8; 65536];
     let n = fill(input, &mut buffer[..length])?;
-    print_sheet(rt, &buffer[..n])?;
+    let all = Printout::of(&buffer[..n]);
+    print!(rt; "{all}")?;
     Ok(true)
 }
 

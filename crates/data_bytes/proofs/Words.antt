@@ -5,8 +5,8 @@ use Prim.Native.Nat.{ℕ, zero, suc, ◌+◌, ◌*◌, ◌/◌, ◌≤◌, ◌<�
 use native.Mathlib.Omega.{arith}
 use lib.ListN.{length, take, get_or}
 use lib.Seq.{ext_get_or, get_or-take, length-take-le}
-use Rattle.protocol.specs.declared.Verdict.{Verdict}
-use Rattle.protocol.specs.declared.Verdict.TheVariants.{Accepted}
+use Rattle.std.specs.Int.{w32, from_be_bytes}
+use Rattle.protocol.specs.Types.{Verdict, Accepted}
 use Rattle.protocol.specs.Program.{big_endian, bytes_verdict}
 use Rattle.protocol.proofs.Fits.{few_bytes}
 
@@ -27,13 +27,16 @@ at (a ∷ b ∷ c ∷ d ∷ l) (suc i) (suc (suc zero)) e h = absurd (omega arit
 at (a ∷ b ∷ c ∷ d ∷ l) (suc i) (suc (suc (suc zero))) e h = absurd (omega arith)
 at (a ∷ b ∷ c ∷ d ∷ l) (suc i) (suc (suc (suc (suc j)))) e h = at l i j (omega arith) (omega arith)
 
-pub word_inside : (l : List ℕ) (i a b c d w : ℕ) → i < length l / 4 → a ≡ get_or l (4 * i) 0 → b ≡ get_or l (4 * i + 1) 0 → c ≡ get_or l (4 * i + 2) 0 → d ≡ get_or l (4 * i + 3) 0
-    → w ≡ ((a * 256 + b) * 256 + c) * 256 + d → w ≡ get_or (big_endian l) i 0
-word_inside l i a b c d w h ea eb ec ed ew =
+big_endian_4 : (a b c d : ℕ) → from_be_bytes w32 (a ∷ b ∷ c ∷ d ∷ []) ≡ word a b c d
+big_endian_4 a b c d = omega arith
+
+pub word_inside : (l : List ℕ) (i w : ℕ) → i < length l / 4
+    → w ≡ from_be_bytes w32 (get_or l (4 * i) 0 ∷ get_or l (4 * i + 1) 0 ∷ get_or l (4 * i + 2) 0 ∷ get_or l (4 * i + 3) 0 ∷ []) → w ≡ get_or (big_endian l) i 0
+word_inside l i w h is =
     let one : 4 * i + 1 ≡ suc (4 * i) = omega arith in
     let two : 4 * i + 2 ≡ suc (suc (4 * i)) = omega arith in
     let three : 4 * i + 3 ≡ suc (suc (suc (4 * i))) = omega arith in
-    rw (at l i (4 * i) refl h, ← three, ← two, ← one, ← ea, ← eb, ← ec, ← ed) ew
+    rw (at l i (4 * i) refl h, ← three, ← two, ← one) (is ∙ big_endian_4 (get_or l (4 * i) 0) (get_or l (4 * i + 1) 0) (get_or l (4 * i + 2) 0) (get_or l (4 * i + 3) 0))
 
 pub word_past : (l : List ℕ) (i : ℕ) → length l / 4 ≤ i → 0 ≡ get_or (big_endian l) i 0
 unfolding big_endian

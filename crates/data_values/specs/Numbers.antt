@@ -1,9 +1,7 @@
 -- A head number, a count or a serial as a byte.
-use Rattle.std.specs.Prelude.{◌%◌}
-use Rattle.protocol.specs.declared.OptNumber.{OptNumber}
-use Rattle.protocol.specs.declared.OptNumber.TheVariants.{NoNumber, SomeNumber}
+use Rattle.std.specs.Prelude.{◌%◌, Option, Some, None, ℕ}
 
 -- its eight lowest bits
-abbrev pub cut_number : OptNumber → OptNumber
-cut_number NoNumber = NoNumber
-cut_number (SomeNumber k) = SomeNumber (k % 256)
+abbrev pub cut_number : Option ℕ → Option ℕ
+cut_number None = None
+cut_number (Some k) = Some (k % 256)

@@ -4,17 +4,15 @@
 use Rattle.std.proofs.Common.{◌≡◌, ℕ, ◌≤◌, true, List, length, sym, refl, ap, ◌∙◌, subst, ap₂, arith, length-append}
 use lib.ListN.{length-map}
 use Rattle.protocol.specs.declared.HeadRecord.{HeadRecord}
+use Rattle.protocol.specs.declared.HeadRow.{HeadRow}
 use Rattle.protocol.specs.declared.Input.{Input}
 use Rattle.protocol.specs.declared.Cause.{Cause}
-use Rattle.protocol.specs.declared.Verdict.{Verdict}
-use Rattle.protocol.specs.declared.Verdict.TheVariants.{Accepted, Refused}
+use Rattle.protocol.specs.Types.{Verdict, Accepted, Refused, Frame, NoFrame, Start, Vote, Adjust}
 use Rattle.protocol.specs.declared.Stepped.{Stepped}
-use Rattle.protocol.specs.declared.Sent.{Sent}
-use Rattle.protocol.specs.declared.Frame.{Frame}
-use Rattle.protocol.specs.declared.Frame.TheVariants.{NoFrame, Start, Vote, Adjust}
+use Rattle.head_row.specs.declared.Sent.{Sent}
 use Rattle.protocol.specs.Record.{reading, record_in_range}
 use Rattle.protocol.specs.Step.{accepted, refused, with_last, act, taken_as, take_action, action_of, input_fits, step}
-use Rattle.protocol.specs.Row.{row_length, row_of, record_in, row_fits, row_in_range}
+use Rattle.protocol.specs.Row.{start_number, row_of, record_in, row_fits, row_in_range}
 use Rattle.protocol.specs.Board.{row_step}
 use Rattle.protocol.proofs.Tests.{cases, and_left}
 use Rattle.protocol.proofs.Fits.{input_fits_lem}
@@ -29,10 +27,9 @@ use Rattle.head_causes.proofs.Verdicts.{out_of_range}
 use Rattle.head_causes.proofs.Taken.{AcceptedStep, accepted_step}
 use Rattle.head_record.specs.Bytes.{Holds, FrameSized, StandsFor}
 
--- a row of that length is that of a record with sixteen senders
-sixteen_of : (r : HeadRecord) → length (row_of r) ≡ row_length → length r.senders ≡ 16
-unfolding row_of
-sixteen_of r e = let sum = simp (length-append, length-map) at e in omega arith
+-- a row with sixteen start readings is that of a record with sixteen senders
+sixteen_of : (r : HeadRecord) → length (row_of r).start_readings ≡ 16 → length r.senders ≡ 16
+sixteen_of r e = sym (length-map r.senders start_number) ∙ e
 
 -- a frame in its ranges has room in bytes
 frame_sized : (n : ℕ) → n ≤ 16 → (x : Frame) → FrameInRange n x → FrameSized x
@@ -41,9 +38,9 @@ frame_sized n small Start h = tt
 frame_sized n small (Vote k c x) h = let a = h.serial in let b = h.choice in (omega arith, omega arith, h.reading)
 frame_sized n small (Adjust k c x) h = let a = h.serial in let b = h.choice in (omega arith, omega arith, h.reading)
 
-module _ (r : HeadRecord) (i : Input) (row : List ℕ) (is_row : row ≡ row_of r) (long : length row ≡ row_length) where
+module _ (r : HeadRecord) (i : Input) (row : HeadRow) (is_row : row ≡ row_of r) (long : length row.start_readings ≡ 16) where
   sixteen : length r.senders ≡ 16
-  sixteen = sixteen_of r (ap length (sym is_row) ∙ long)
+  sixteen = sixteen_of r (ap (λ (w : HeadRow). length w.start_readings) (sym is_row) ∙ long)
 
   -- what the action does to a record
   abbrev acts : HeadRecord → Stepped
@@ -112,7 +109,7 @@ module _ (r : HeadRecord) (i : Input) (row : List ℕ) (is_row : row ≡ row_of 
           frame_sized r.n h.heads.1 done.frame
           (subst (λ (t : Stepped). FrameInRange r.n t.frame) takes (take_in_range (reading i.reading) true (action_of i) h x.0 x.1).1)
 
-      pub taken_step : (row' : List ℕ) (x : Sent)
+      pub taken_step : (row' : HeadRow) (x : Sent)
           → (InputSized i → Acts acts row row' x) → (after : HeadRecord) → Holds row' after → (frame : Frame) → StandsFor x frame → accepted after frame ≡ step r i
       taken_step row' x does after holds frame stands =
           let gives = does sized r is_row (fits (in_range ranged) sixteen) in

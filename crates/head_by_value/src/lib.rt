@@ -1,4 +1,4 @@
-// One head of a bench: its step, the reading of its counter, and how a round ends for it.
+//! One head of a bench: its step, the reading of its counter, and how a round ends for it.
 #![tactic(auto)]
 
 mod counter;
@@ -12,29 +12,24 @@ pub use ending::{chosen_start, outcome};
 use head_causes::row_verdict;
 use head_record::{frame_in, record_in, row_of};
 use head_step::act;
-use protocol::{Frame, HeadRecord, Input, Stepped, Verdict};
+use protocol::{HeadRecord, Input, Stepped};
 
-// The step of one head, on the record's row: causes 10, 6, 8 and 9 in this order, then what the action does.
+/// The step of one head, on the record's row: causes 10, 6, 8 and 9 in this order, then what the action does.
 pub fn step(r: HeadRecord, i: Input) -> Stepped
     ensures { result ≡ step r i }
 {
     let mut row = row_of(r);
-    let v = row_verdict(&row, i);
-    match v {
-        Verdict::Accepted => {
-            let s = act(&mut row, i);
-            let after = record_in(&row);
-            let frame = frame_in(s);
-            Stepped {
-                verdict: Verdict::Accepted,
-                after,
-                frame,
-            }
-        }
-        Verdict::Refused(c) => Stepped {
-            verdict: Verdict::Refused(c),
+    if let Err(c) = row_verdict(&row, i) {
+        return Stepped {
+            verdict: Err(c),
             after: r,
-            frame: Frame::NoFrame,
-        },
+            frame: None,
+        };
+    }
+    let sent = act(&mut row, i);
+    Stepped {
+        verdict: Ok(()),
+        after: record_in(&row),
+        frame: frame_in(sent),
     }
 }

@@ -9,11 +9,12 @@ use lib.Dec.{leb, eqb}
 use lib.ListN.{get_or}
 use borrow.Author.Tests.{lt-ltb, le-ltb, ne_eqb, eqb-true, leb-true}
 use Rattle.protocol.specs.declared.HeadRecord.{HeadRecord}
+use Rattle.protocol.specs.declared.HeadRow.{HeadRow}
 use Rattle.protocol.specs.declared.Input.{Input}
 use Rattle.protocol.specs.declared.Action.{Action}
 use Rattle.protocol.specs.declared.Action.TheVariants.{Look}
 use Rattle.protocol.specs.declared.Stepped.{Stepped}
-use Rattle.protocol.specs.declared.Verdict.TheVariants.{Accepted, Refused}
+use Rattle.protocol.specs.Types.{Accepted, Refused}
 use Rattle.protocol.specs.declared.Cause.TheVariants.{BadEntry, ReadingFell, ActionClosed, BadRecord}
 use Rattle.protocol.specs.Words.{has_serial}
 use Rattle.protocol.specs.Record.{reading, marks_number, record_in_range}
@@ -49,7 +50,7 @@ module _ (i : Input) (own marks : ℕ) where
 
 -- THE TESTS IN THEIR ORDER
 
-module _ (w : List ℕ) (i : Input) where
+module _ (w : HeadRow) (i : Input) where
   pub out_of_range : row_in_range w ≡ false → Refused BadRecord ≡ (row_step w i).verdict
   unfolding row_in_range row_step step
   out_of_range h = go (row_fits w) refl (record_in_range (record_in w)) refl
@@ -68,43 +69,43 @@ module _ (w : List ℕ) (i : Input) where
     unfolding row_in_range
     in_range = and_right (row_fits w) _ h
 
-    pub does_not_fit : input_fits (get_or w 7 0) i ≡ false → Refused BadEntry ≡ (row_step w i).verdict
+    pub does_not_fit : input_fits w.heads i ≡ false → Refused BadEntry ≡ (row_step w i).verdict
     unfolding row_step step record_in
     does_not_fit f = rw (fits, in_range, f) refl
 
-    module _ (f : input_fits (get_or w 7 0) i ≡ true) where
+    module _ (f : input_fits w.heads i ≡ true) where
       taken : row_step w i ≡ take_action (record_in w) (reading i.reading) true (action_of i)
       unfolding row_step step record_in
       taken = rw (fits, in_range, f) refl
 
-      pub reading_falls : i.reading < get_or w 0 0 → Refused ReadingFell ≡ (row_step w i).verdict
+      pub reading_falls : i.reading < w.last → Refused ReadingFell ≡ (row_step w i).verdict
       unfolding take_action record_in
       reading_falls lt = rw (taken, lt-ltb _ _ lt) refl
 
       -- the marks that the row has are those of its record
-      marks_are : get_or w 1 0 ≡ marks_number (record_in w)
+      marks_are : w.marks.0 ≡ marks_number (record_in w)
       unfolding row_fits
-      marks_are = eqb-true _ _ (and_left (eqb (get_or w 1 0) (marks_number (record_in w))) _ fits)
+      marks_are = eqb-true _ _ (and_left (eqb w.marks.0 (marks_number (record_in w))) _ fits)
 
       action_below : i.action ≤ 9
       unfolding input_fits
       action_below = leb-true i.action 9 (and_left (leb i.action 9) _ f)
 
-      closed_is : is_closed (record_in w) (action_of i) ≡ closed_at i (get_or w 9 0) (get_or w 1 0) i.action
+      closed_is : is_closed (record_in w) (action_of i) ≡ closed_at i w.own w.marks.0 i.action
       unfolding record_in
       closed_is =
           closed_at_lem i (record_in w) action_below
-          ∙ ap (λ (m : ℕ). closed_at i (get_or w 9 0) m i.action) (sym marks_are)
+          ∙ ap (λ (m : ℕ). closed_at i w.own m i.action) (sym marks_are)
 
       -- a spent action is taken as a look; the row's marks of early closes are its record's
-      module _ (spent : Bool) (spent-is : spent ≡ is_spent i.action (eqb (get_or w 10 0) 1) (eqb (get_or w 11 0) 1)) where
+      module _ (spent : Bool) (spent-is : spent ≡ is_spent i.action (eqb w.votes.early 1) (eqb w.adjusts.early 1)) where
         taken_is : taken_as (record_in w) (action_of i) ≡ cond spent Look (action_of i)
         unfolding taken_as record_in
         taken_is =
             ap (λ (b : Bool). cond b Look (action_of i))
-            (ap (λ (k : ℕ). is_spent k (eqb (get_or w 10 0) 1) (eqb (get_or w 11 0) 1)) (made_of (record_in w) i action_below).0 ∙ sym spent-is)
+            (ap (λ (k : ℕ). is_spent k (eqb w.votes.early 1) (eqb w.adjusts.early 1)) (made_of (record_in w) i action_below).0 ∙ sym spent-is)
 
-        module _ (rises : get_or w 0 0 ≤ i.reading) where
+        module _ (rises : w.last ≤ i.reading) where
           verdict_of : (a : Action) → cond spent Look (action_of i) ≡ a → (b : Bool) → is_closed (record_in w) a ≡ b
               → cond b (Refused ActionClosed) Accepted ≡ (row_step w i).verdict
           unfolding take_action record_in
@@ -117,7 +118,7 @@ module _ (w : List ℕ) (i : Input) where
           unfolding is_closed
           spent_is_taken s = verdict_of Look (rw s refl) false refl
 
-          module _ (s : spent ≡ false) (b : Bool) (is : b ≡ closed_at i (get_or w 9 0) (get_or w 1 0) i.action) where
+          module _ (s : spent ≡ false) (b : Bool) (is : b ≡ closed_at i w.own w.marks.0 i.action) where
             pub is_shut : b ≡ true → Refused ActionClosed ≡ (row_step w i).verdict
             is_shut e = verdict_of (action_of i) (rw s refl) true (closed_is ∙ sym is ∙ e)
 

@@ -1,4 +1,4 @@
-// Causes 10, 6, 8 and 9 of an action at one head, by its row.
+//! Causes 10, 6, 8 and 9 of an action at one head, by its row.
 #![tactic(auto)]
 
 ghost use Rattle.std.specs.Prelude.{◌≡◌, ◌&&◌, ◌||◌, eqb};
@@ -9,11 +9,11 @@ ghost use Rattle.protocol.specs.Board.{row_step};
 use head_input::input_fits;
 use head_open::{closed_by, is_spent};
 use head_ranges::row_in_range;
-use protocol::{Cause, Input, Row, Verdict, at};
+use protocol::{Cause, HeadRow, Input, Marks};
 
-// Whether an action is closed to head own by its marks; "Closed if sender is h".
-fn is_closed(i: Input, marks: u32, own: u32) -> bool
-    ensures { result ≡ (has_serial i.action && eqb i.sender own || closed_by i.action marks) }
+// Whether an action is closed to head own by its marks; "Closed if sender is h". The action is a number, as `Input` has it.
+fn is_closed(i: Input, marks: Marks, own: u32) -> bool
+    ensures { result ≡ (has_serial i.action && eqb i.sender own || closed_by i.action marks.0) }
 {
     let a = i.action;
     match a {
@@ -23,28 +23,24 @@ fn is_closed(i: Input, marks: u32, own: u32) -> bool
     }
 }
 
-// "One head: 10, 6, 8, 9"
-pub fn row_verdict(row: &Row, i: Input) -> Verdict
+/// "One head: 10, 6, 8, 9"
+pub fn row_verdict(row: &HeadRow, i: Input) -> Result<(), Cause>
     ensures { result ≡ (row_step row.now i).verdict }
 {
-    if row_in_range(row) {
-        if input_fits(row[at::HEADS], i) {
-            if i.reading < row[at::LAST] {
-                return Verdict::Refused(Cause::ReadingFell);
-            }
-            if is_spent(
-                i.action,
-                row[at::VOTE_EARLY] == 1,
-                row[at::ADJUST_EARLY] == 1,
-            ) {
-                return Verdict::Accepted;
-            }
-            if is_closed(i, row[at::MARKS], row[at::OWN]) {
-                return Verdict::Refused(Cause::ActionClosed);
-            }
-            return Verdict::Accepted;
-        }
-        return Verdict::Refused(Cause::BadEntry);
+    if !row_in_range(row) {
+        return Err(Cause::BadRecord);
     }
-    Verdict::Refused(Cause::BadRecord)
+    if !input_fits(row.heads, i) {
+        return Err(Cause::BadEntry);
+    }
+    if i.reading < row.last {
+        return Err(Cause::ReadingFell);
+    }
+    if is_spent(i.action, row.votes.early == 1, row.adjusts.early == 1) {
+        return Ok(());
+    }
+    if is_closed(i, row.marks, row.own) {
+        return Err(Cause::ActionClosed);
+    }
+    Ok(())
 }

@@ -1,18 +1,14 @@
 -- The test at the end of an action, in parts that the code has as functions of their own.
-use Rattle.std.specs.Prelude.{Bool, true, not, ◌&&◌, ℕ}
+use Rattle.std.specs.Prelude.{Bool, true, not, ◌&&◌, ℕ, min, eqb, get_or}
 use Rattle.protocol.specs.declared.HeadRecord.{HeadRecord}
-use Rattle.protocol.specs.Record.{Kind, votes, adjusts}
-use Rattle.protocol.specs.Step.{has_mark, close_early}
+use Rattle.protocol.specs.declared.PhaseRow.{PhaseRow}
+use Rattle.protocol.specs.Base.{all_below}
+use Rattle.protocol.specs.Record.{votes, adjusts}
+use Rattle.protocol.specs.Step.{close_early}
 
--- the weight of a phase's close mark
-abbrev pub close_weight : Kind → ℕ
-close_weight votes = 8
-close_weight adjusts = 32
-
--- is_under_way, of the number of the marks
-abbrev pub under_way_by : Kind → ℕ → Bool
-under_way_by votes m = not (has_mark m 8)
-under_way_by adjusts m = has_mark m 8 && not (has_mark m 32)
+-- all_spoken, of a phase's numbers: there is a choice and all n latest frames name it
+abbrev pub spoken_by : PhaseRow → ℕ → Bool
+spoken_by w n = not (eqb w.choice 0) && all_below (min n 16) (λ q. eqb (get_or w.latest q 0) w.choice)
 
 -- the test at the end of an action, if it is made
 abbrev pub closes : HeadRecord → HeadRecord

@@ -1,70 +1,56 @@
--- Readings of another candidate dropped from a row, one sender after another, are those dropped from the record.
--- Main results: `dropped_next`, `all_dropped`.
-use Rattle.std.proofs.Common.{◌≡◌, ℕ, zero, suc, ◌+◌, ◌%◌, ◌^◌, ◌<◌, ◌≤◌, Bool, cond, eqb, List, [], ◌∷◌, map, length, get_or, set, sym, refl, ap, ◌∙◌, ap₂, add-one, arith, length-set}
-use Rattle.protocol.specs.declared.OptNumber.TheVariants.{SomeNumber}
+-- Vote readings of another candidate dropped, one sender after another, are those dropped from the record.
+-- Main results: `dropped_next`, `dropped_row`.
+use Rattle.std.proofs.Common.{◌≡◌, ℕ, zero, suc, ◌+◌, Bool, cond, eqb, List, [], ◌∷◌, map, length, get_or, set, sym, refl, ap, ◌∙◌, ap₂, add-one, Some}
 use Rattle.protocol.specs.declared.Sender.{Sender}
 use Rattle.protocol.specs.declared.HeadRecord.{HeadRecord}
-use Rattle.protocol.specs.Record.{votes, no_sender, kept_of, vote_of, same_number}
-use Rattle.protocol.specs.Step.{with_senders, kept_for, drop_others}
-use Rattle.protocol.specs.Row.{reading_plus1, row_of}
-use Rattle.head_row.specs.Promises.{Becomes}
-use Rattle.head_row.proofs.Rows.{vote_read, latest_read, vote_written, same_name, reading_left}
+use Rattle.protocol.specs.Record.{votes, adjusts, marks_number, same_number}
+use Rattle.protocol.specs.Step.{kept_for, drop_others}
+use Rattle.protocol.specs.Row.{start_number, vote_number, serial_number, latest_number, row_of}
+use Rattle.head_row.proofs.Rows.{same_name, reading_left}
+use Rattle.head_frames.specs.Drops.{dropped_below}
 
--- A LIST with its first elements changed, one after another, until all are
+abbrev left : ℕ → ℕ → ℕ → ℕ
+left name latest reading = cond (eqb latest name) reading 0
 
-module _ (f : Sender → Sender) where
-  abbrev changed : ℕ → List Sender → List Sender
-  changed zero l = l
-  changed (suc p) l = set (changed p l) p (f (get_or (changed p l) p no_sender))
+pub dropped_next : (name : ℕ) (latest l r : List ℕ) (p x : ℕ) → r ≡ dropped_below name latest l p → x ≡ left name (get_or latest p 0) (get_or r p 0)
+    → set r p x ≡ dropped_below name latest l (p + 1)
+unfolding dropped_below
+dropped_next name latest l r p x is x-is = rw (add-one, x-is, is) refl
 
-  changed_length : (k : ℕ) (l : List Sender) → length (changed k l) ≡ length l
-  changed_length zero l = refl
-  changed_length (suc p) l = length-set (changed p l) p _ ∙ changed_length p l
+module _ (name : ℕ) where
+  dropped_first : (x y : ℕ) (latest l : List ℕ) (k : ℕ) → dropped_below name (x ∷ latest) (y ∷ l) (suc k) ≡ left name x y ∷ dropped_below name latest l k
+  unfolding dropped_below
+  dropped_first x y latest l zero = refl
+  dropped_first x y latest l (suc k) =
+      ap (λ (m : List ℕ). set m (suc k) (left name (get_or latest k 0) (get_or m (suc k) 0))) (dropped_first x y latest l k)
 
-  changed_first : (k : ℕ) (x : Sender) (l : List Sender) → changed (suc k) (x ∷ l) ≡ f x ∷ changed k l
-  changed_first zero x l = refl
-  changed_first (suc p) x l = ap (λ (m : List Sender). set m (suc p) (f (get_or m (suc p) no_sender))) (changed_first p x l)
+module _ (c : ℕ) where
+  abbrev kept : Sender → Sender
+  kept = kept_for (Some c)
 
-  all_changed : (l : List Sender) → changed (length l) l ≡ map f l
-  all_changed [] = refl
-  all_changed (x ∷ l) = changed_first (length l) x l ∙ ap (λ (m : List Sender). f x ∷ m) (all_changed l)
+  left_of : (k : Sender) → left (c + 1) (latest_number votes k) (vote_number k) ≡ vote_number (kept k)
+  left_of k = ap (λ (b : Bool). cond b (vote_number k) 0) (same_name k.candidate c) ∙ reading_left (same_number k.candidate (Some c)) k.vote
 
--- A ROW, name being that of the candidate
+  all_dropped : (l : List Sender) → dropped_below (c + 1) (map (latest_number votes) l) (map vote_number l) (length l) ≡ map vote_number (map kept l)
+  unfolding dropped_below
+  all_dropped [] = refl
+  all_dropped (k ∷ l) = dropped_first (c + 1) _ _ _ _ (length l) ∙ ap₂ ◌∷◌ (left_of k) (all_dropped l)
 
-abbrev left : ℕ → List ℕ → ℕ → ℕ
-left name row p = cond (eqb (get_or row (80 + p) 0) name) (get_or row (32 + p) 0) 0
+  -- the other numbers stay
+  others : (f : Sender → ℕ) → ((k : Sender) → f (kept k) ≡ f k) → (l : List Sender) → map f (map kept l) ≡ map f l
+  others f e [] = refl
+  others f e (k ∷ l) = ap₂ ◌∷◌ (e k) (others f e l)
 
--- the row with the readings of the senders below p dropped
-abbrev pub dropped_below : ℕ → List ℕ → ℕ → List ℕ
-dropped_below name row zero = row
-dropped_below name row (suc p) = set (dropped_below name row p) (32 + p) (left name (dropped_below name row p) p)
-
-pub dropped_next : (name : ℕ) (row row' : List ℕ) (p x : ℕ) → row' ≡ dropped_below name row p → x ≡ left name row' p
-    → set row' (32 + p) x ≡ dropped_below name row (p + 1)
-dropped_next name row row' p x is x-is = rw (add-one, x-is, is) refl
-
-module _ (c : ℕ) (r : HeadRecord) (long : length r.senders ≡ 16) where
-  abbrev up_to : ℕ → HeadRecord
-  up_to p = with_senders r (changed (kept_for (SomeNumber c)) p r.senders)
-
-  dropped_row : (k : ℕ) → k ≤ 16 → dropped_below (c + 1) (row_of r) k ≡ row_of (up_to k)
-  dropped_row zero l = refl
-  dropped_row (suc p) l =
-      let s = up_to p in
-      let sixteen = changed_length (kept_for (SomeNumber c)) p r.senders ∙ long in
-      let below : p < 16 = omega arith in
-      ap (λ (w : List ℕ). set w (32 + p) (left (c + 1) w p)) (dropped_row p (omega arith))
-      ∙ ap (set (row_of s) (32 + p))
-      (ap₂ (λ (m x : ℕ). cond (eqb m (c + 1)) x 0) (latest_read s sixteen p below votes) (vote_read s sixteen p below)
-      ∙ ap (λ (b : Bool). cond b (reading_plus1 (vote_of s p)) 0) (same_name (kept_of s p).candidate c)
-      ∙ reading_left (same_number (kept_of s p).candidate (SomeNumber c)) (vote_of s p))
-      ∙ vote_written s sixteen p below _
-
-pub all_dropped : (c name : ℕ) (row row' : List ℕ) (p : ℕ) → name ≡ (c + 1) % 2 ^ 32 → p ≤ 16 → 16 ≤ p → row' ≡ dropped_below name row p
-    → c < 16 → Becomes (drop_others c) row row'
-all_dropped c name row row' p name-is below end is small r row_is h =
-    let all : p ≡ 16 = omega arith in
-    let number : name ≡ c + 1 = omega arith in
-    is ∙ rw (row_is, all, number) (dropped_row c r h.senders 16 (omega arith)
-    ∙ ap (λ (l : List Sender). row_of (with_senders r l))
-    (ap (λ (k : ℕ). changed (kept_for (SomeNumber c)) k r.senders) (sym h.senders) ∙ all_changed (kept_for (SomeNumber c)) r.senders))
+  pub dropped_row : (r : HeadRecord) → length r.senders ≡ 16
+      → row_of (drop_others c r) ≡ record (row_of r) { vote_readings = dropped_below (c + 1) (row_of r).votes.latest (row_of r).vote_readings 16 }
+  unfolding marks_number
+  dropped_row r long =
+      let l = r.senders in
+      rw (
+        sym (ap (dropped_below (c + 1) (map (latest_number votes) l) (map vote_number l)) (sym long) ∙ all_dropped l),
+        others start_number (λ k. refl) l,
+        others (serial_number votes) (λ k. refl) l,
+        others (serial_number adjusts) (λ k. refl) l,
+        others (latest_number votes) (λ k. refl) l,
+        others (latest_number adjusts) (λ k. refl) l,
+      ) refl

@@ -1,85 +1,87 @@
 -- What a head sends of itself, and what that leaves in its row, by the numbers that the code computes.
 -- Main results: `vote_gives`, `adjust_gives`; `may_lead_with`, `may_not_lead`, `lead_votes`, `lead_waits`; `may_adjust_with`,
 -- `may_not_adjust`, `may_not_adjust_again`, `propose_adjusts`, `propose_waits`.
-use Rattle.std.proofs.Common.{◌≡◌, ℕ, ◌+◌, ◌%◌, ◌^◌, ◌<◌, Bool, true, false, not, ◌&&◌, eqb, ltb, leb, ◌≢◌, List, length, get_or, set, sym, refl, ap, ◌∙◌, subst, ap₂, add-one, arith, lit<, ne_eqb}
+use Rattle.std.proofs.Common.{◌≡◌, ℕ, ◌+◌, ◌%◌, ◌^◌, ◌<◌, Bool, true, false, not, ◌&&◌, eqb, ltb, leb, ◌≢◌, List, length, get_or, set, sym, refl, ap, ◌∙◌, subst, ap₂, add-one, arith, lit<, ne_eqb, is_some}
 use lib.ListN.{length-map}
-use Rattle.protocol.specs.declared.OptNumber.TheVariants.{SomeNumber}
 use Rattle.protocol.specs.declared.Sender.{Sender}
 use Rattle.protocol.specs.declared.HeadRecord.{HeadRecord}
+use Rattle.protocol.specs.declared.HeadRow.{HeadRow}
+use Rattle.protocol.specs.declared.Marks.{Marks}
+use Rattle.protocol.specs.declared.PhaseRow.{PhaseRow}
 use Rattle.protocol.specs.declared.Stepped.{Stepped}
-use Rattle.protocol.specs.declared.Sent.{Sent}
-use Rattle.protocol.specs.declared.Frame.TheVariants.{NoFrame}
-use Rattle.protocol.specs.Record.{votes, adjusts, is_number, reading, kept_of, start_of, marks_number}
+use Rattle.head_row.specs.declared.Sent.{Sent}
+use Rattle.protocol.specs.Types.{NoFrame}
+use Rattle.protocol.specs.Record.{votes, adjusts, reading, kept_of, start_of, marks_number}
 use Rattle.protocol.specs.Median.{median}
 use Rattle.protocol.specs.Step.{choose, with_vote_reading, with_candidate, with_adjuster, with_vote, with_sender, kept_for, drop_others, vote, adjust, starts_held, may_lead, lead, vote_readings, may_adjust, propose, has_mark}
-use Rattle.protocol.specs.Row.{reading_plus1, row_of, sent_of}
+use Rattle.protocol.specs.Row.{reading_plus1, row_of}
+use Rattle.head_row.specs.Sent.{sent_of}
 use Rattle.protocol.proofs.Tests.{and_false}
 use Rattle.protocol.proofs.Effects.{kept_for_at, kept_for_keeps}
 use Rattle.head_row.specs.Promises.{Fits, Reads, Gives, Acts}
-use Rattle.head_row.proofs.Rows.{own_number, start_read, own_vote_written, own_adjust_written, vote_phase_written, adjust_phase_written, is_none, is_some}
-use Rattle.head_open.proofs.Marks.{with_mark, has_vote_turn, has_vote_closed, has_candidate, with_candidate_lem}
+use Rattle.head_row.proofs.Rows.{start_read, own_vote_written, own_adjust_written, absent_at_0, there_unless_0}
+use Rattle.head_open.proofs.Marks.{marks_are, with_mark, has_vote_turn, has_vote_closed, has_candidate, with_candidate_lem}
+use Rattle.head_frames.specs.Drops.{dropped_below}
+use Rattle.head_frames.proofs.Drops.{dropped_row}
 
--- A VOTE, once the readings of another candidate are dropped
+-- A VOTE
 
-module _ (c : ℕ) (row : List ℕ) (m c' k' c'' i j j' : ℕ) (m-is : m ≡ with_mark (get_or row 1 0) 64) (c-is : c' ≡ (c + 1) % 2 ^ 32)
-    (k-is : k' ≡ (get_or row 3 0 + 1) % 2 ^ 32) (i-is : i ≡ c % 16) (j-is : j ≡ get_or row 9 0 % 16) (name-is : c'' ≡ (c + 1) % 2 ^ 32)
-    (j'-is : j' ≡ get_or row 9 0 % 16) (small : c < 16)
-    (r : HeadRecord) (is : row ≡ row_of (drop_others c r)) (fit : Fits r) where
+module _ (c : ℕ) (w : HeadRow) (m : Marks) (name sent own i : ℕ) (m-is : m.0 ≡ with_mark w.marks.0 64) (name-is : name ≡ (c + 1) % 2 ^ 32)
+    (sent-is : sent ≡ (w.votes.sent + 1) % 2 ^ 32) (own-is : own ≡ w.own % 16) (i-is : i ≡ c % 16) (small : c < 16)
+    (r : HeadRecord) (is : w ≡ row_of r) (fit : Fits r) where
   abbrev left : HeadRecord
   left = drop_others c r
 
-  abbrev chosen : HeadRecord
-  chosen = with_vote left (choose c r.vote)
+  marks : m.0 ≡ marks_number (with_vote r (choose c r.vote))
+  marks = m-is ∙ rw is (with_candidate_lem r c)
 
-  sixteen : length left.senders ≡ 16
-  sixteen = length-map r.senders (kept_for (SomeNumber c)) ∙ fit.senders
+  carried : get_or w.start_readings i 0 ≡ reading_plus1 (start_of r c)
+  carried = let e : i ≡ c = omega arith in rw (is, e) (start_read r c)
 
-  mark : m ≡ marks_number chosen
-  mark = m-is ∙ ap (λ (n : ℕ). with_mark n 64) (own_number left is 1 (lit< tt)) ∙ with_candidate_lem left c
+  own_here : own ≡ r.own
+  own_here = let e = ap (λ (v : HeadRow). v.own) is in let b = fit.own in omega arith
 
-  count : k' ≡ r.vote.sent + 1
-  count = let e = own_number left is 3 (lit< tt) in let b = fit.sent votes in omega arith
+  name_here : name ≡ c + 1
+  name_here = omega arith
 
-  own : (i : ℕ) → i ≡ get_or row 9 0 % 16 → i ≡ r.own
-  own i i-is = let e = own_number left is 9 (lit< tt) in let b = fit.own in omega arith
+  sent_here : sent ≡ r.vote.sent + 1
+  sent_here = let e = ap (λ (v : HeadRow). v.votes.sent) is in let b = fit.sent votes in omega arith
 
-  carried : get_or row (16 + i) 0 ≡ reading_plus1 (start_of r c)
-  carried =
-      let e : i ≡ c = omega arith in
-      rw (is, e) (start_read left sixteen c small ∙ ap reading_plus1 (kept_for_keeps (λ k. k.start) (λ k x. refl) c r c))
+  abbrev with_choice : HeadRow → HeadRow
+  with_choice v = record v { marks = record { 0 = marks_number (with_vote r (choose c r.vote)) }; votes = record v.votes { choice = c + 1; sent = r.vote.sent + 1 } }
 
   -- the own vote reading is another now, so it is the same whether the old one was dropped
-  own_vote : row_of (with_sender chosen r.own (with_candidate (with_vote_reading (kept_of chosen r.own) (start_of r c)) c)) ≡ row_of (vote c r).after
-  unfolding vote
-  own_vote = ap (λ (k : Sender). row_of (with_sender chosen r.own (with_candidate (with_vote_reading k (start_of r c)) c))) (kept_for_at c r r.own)
+  spoken : with_sender left r.own (with_candidate (with_vote_reading (kept_of left r.own) (start_of r c)) c)
+      ≡ with_sender left r.own (with_candidate (with_vote_reading (kept_of r r.own) (start_of r c)) c)
+  spoken = ap (λ (k : Sender). with_sender left r.own (with_candidate (with_vote_reading k (start_of r c)) c)) (kept_for_at c r r.own)
 
-  pub vote_gives : Gives (vote c r) (set (set (set (set (set row 1 m) 2 c') 3 k') (32 + j) (get_or row (16 + i) 0)) (80 + j') c'')
-      (record { kind = 5; serial = get_or row 3 0; choice = c; carried = get_or row (16 + i) 0 })
-  unfolding vote row_of
+  left_row : record (row_of r) { vote_readings = dropped_below (c + 1) (row_of r).votes.latest (row_of r).vote_readings 16 } ≡ row_of left
+  left_row = sym (dropped_row c r fit.senders)
+
+  pub vote_gives : Gives (vote c r)
+      (record w { marks = m; vote_readings = set (dropped_below name w.votes.latest w.vote_readings 16) own (get_or w.start_readings i 0); votes = record w.votes { choice = name; sent = sent; latest = set w.votes.latest own name } })
+      (record { kind = 5; serial = w.votes.sent; choice = c; carried = get_or w.start_readings i 0 })
+  unfolding vote marks_number
   vote_gives =
-      let name : c' ≡ c + 1 = omega arith in
-      let latest : c'' ≡ c + 1 = omega arith in
-      rw (carried, mark, name, latest, count, own j j-is, own j' j'-is, is) (
-        ap (λ (l : List ℕ). set (set l (32 + r.own) (reading_plus1 (start_of r c))) (80 + r.own) (c + 1)) (vote_phase_written left c)
-            ∙ own_vote_written chosen sixteen r.own fit.own (start_of r c) c ∙ own_vote,
+      rw (marks_are m marks, carried, own_here, name_here, sent_here, is) (
+        ap (λ (v : HeadRow). with_choice (record v { vote_readings = set v.vote_readings r.own (reading_plus1 (start_of r c)); votes = record v.votes { latest = set v.votes.latest r.own (c + 1) } })) left_row
+            ∙ ap with_choice (own_vote_written left r.own (start_of r c) c ∙ ap row_of spoken),
         refl,
       )
 
 -- AN ADJUST
 
-pub adjust_gives : (a x : ℕ) (row : List ℕ) (j a'' a' k' : ℕ) → j ≡ get_or row 9 0 % 16 → a'' ≡ (a + 1) % 2 ^ 32 → a' ≡ (a + 1) % 2 ^ 32 → k' ≡ (get_or row 5 0 + 1) % 2 ^ 32 → a < 16
-    → (r : HeadRecord) → row ≡ row_of r → Fits r
-    → Gives (adjust a (reading x) r) (set (set (set (set row (96 + j) a'') 4 a') 5 k') 6 x) (record { kind = 8; serial = get_or row 5 0; choice = a; carried = x })
-unfolding adjust row_of
-adjust_gives a x row j a'' a' k' j-is latest_is a-is k-is small r is fit =
-    let own : j ≡ r.own = let e = own_number r is 9 (lit< tt) in let b = fit.own in omega arith in
-    let latest : a'' ≡ a + 1 = omega arith in
-    let name : a' ≡ a + 1 = omega arith in
-    let count : k' ≡ r.adjust.sent + 1 = let e = own_number r is 5 (lit< tt) in let b = fit.sent adjusts in omega arith in
-    let spoken = with_sender r r.own (with_adjuster (kept_of r r.own) a) in
-    rw (own, latest, name, count, is) (
-      ap (λ (l : List ℕ). set (set (set l 4 (a + 1)) 5 (r.adjust.sent + 1)) 6 x) (own_adjust_written r fit.senders r.own fit.own a)
-          ∙ adjust_phase_written spoken a (reading x),
+pub adjust_gives : (a x name own : ℕ) (w : HeadRow) (after : PhaseRow) → name ≡ (a + 1) % 2 ^ 32 → own ≡ w.own % 16
+    → after ≡ record w.adjusts { choice = name; sent = (w.adjusts.sent + 1) % 2 ^ 32; latest = set w.adjusts.latest own name }
+    → a < 16 → (r : HeadRecord) → w ≡ row_of r → Fits r
+    → Gives (adjust a (reading x) r) (record w { adjustment = x; adjusts = after }) (record { kind = 8; serial = w.adjusts.sent; choice = a; carried = x })
+unfolding adjust marks_number
+adjust_gives a x name own w after name-is own-is after-is small r is fit =
+    let own_here : own ≡ r.own = let e = ap (λ (v : HeadRow). v.own) is in let b = fit.own in omega arith in
+    let name_here : name ≡ a + 1 = omega arith in
+    let sent_here : (r.adjust.sent + 1) % 2 ^ 32 ≡ r.adjust.sent + 1 = let b = fit.sent adjusts in omega arith in
+    rw (after-is, own_here, name_here, is, sent_here) (
+      ap (λ (v : HeadRow). record v { adjustment = x; adjusts = record v.adjusts { choice = a + 1; sent = r.adjust.sent + 1 } }) (own_adjust_written r r.own a),
       refl,
     )
 
@@ -98,24 +100,24 @@ may_lead_is : (r : HeadRecord) → may_lead r ≡ waiting (marks_number r) && lt
 unfolding may_lead
 may_lead_is r =
     rw (has_vote_turn r, has_vote_closed r, has_candidate r, add-one r.f)
-    (and_assoc r.vote.turn (not r.vote.closed) (not (is_number r.vote.choice)) _)
+    (and_assoc r.vote.turn (not r.vote.closed) (not (is_some r.vote.choice)) _)
 
-module _ (row : List ℕ) (w : Bool) (w-is : w ≡ waiting (get_or row 1 0)) where
+module _ (row : HeadRow) (w : Bool) (w-is : w ≡ waiting (row.marks.0)) where
   waits_is : (r : HeadRecord) → row ≡ row_of r → may_lead r ≡ w && ltb r.f (starts_held r)
-  waits_is r is = may_lead_is r ∙ ap (λ (b : Bool). b && ltb r.f (starts_held r)) (sym (w-is ∙ ap waiting (own_number r is 1 (lit< tt))))
+  waits_is r is = may_lead_is r ∙ ap (λ (b : Bool). b && ltb r.f (starts_held r)) (sym (w-is ∙ ap (λ (v : HeadRow). waiting v.marks.0) is))
 
-  pub may_lead_with : (k : ℕ) → w ≡ true → Reads starts_held row k → Reads may_lead row (ltb (get_or row 8 0) k)
-  may_lead_with k t held r is fit = ap₂ ltb (own_number r is 8 (lit< tt)) (held r is fit) ∙ sym (waits_is r is ∙ rw t refl)
+  pub may_lead_with : (k : ℕ) → w ≡ true → Reads starts_held row k → Reads may_lead row (ltb (row.faulty) k)
+  may_lead_with k t held r is fit = ap₂ ltb (ap (λ (v : HeadRow). v.faulty) is) (held r is fit) ∙ sym (waits_is r is ∙ rw t refl)
 
   pub may_not_lead : w ≡ false → Reads may_lead row w
   may_not_lead t r is fit = t ∙ sym (waits_is r is ∙ rw t refl)
 
-module _ (row : List ℕ) (b : Bool) (may : Reads may_lead row b) where
-  pub lead_votes : (row' : List ℕ) (x : Sent) → b ≡ true → (get_or row 9 0 < 16 → Acts (vote (get_or row 9 0)) row row' x)
+module _ (row : HeadRow) (b : Bool) (may : Reads may_lead row b) where
+  pub lead_votes : (row' : HeadRow) (x : Sent) → b ≡ true → (row.own < 16 → Acts (vote (row.own)) row row' x)
       → Acts lead row row' x
   unfolding lead
   lead_votes row' x t voted r is fit =
-      let own = own_number r is 9 (lit< tt) in
+      let own = ap (λ (v : HeadRow). v.own) is in
       rw (sym (may r is fit) ∙ t)
       (subst (λ (u : Stepped). Gives u row' x) (ap (λ (c : ℕ). vote c r) own) (voted (rw own fit.own) r is fit))
 
@@ -125,30 +127,30 @@ module _ (row : List ℕ) (b : Bool) (may : Reads may_lead row b) where
 
 -- A HEAD ADJUSTS
 
-module _ (row : List ℕ) where
-  pub may_adjust_with : (k : ℕ) → get_or row 2 0 ≢ 0 → get_or row 4 0 ≡ 0 → Reads (λ (r : HeadRecord). length (vote_readings r r.n)) row k
+module _ (row : HeadRow) where
+  pub may_adjust_with : (k : ℕ) → row.votes.choice ≢ 0 → row.adjusts.choice ≡ 0 → Reads (λ (r : HeadRecord). length (vote_readings r r.n)) row k
       → Reads may_adjust row (leb 1 k)
   unfolding may_adjust
   may_adjust_with k some none held r is fit =
-      let candidate = is_some r.vote.choice (own_number r is 2 (lit< tt)) some in
-      let adjuster = is_none r.adjust.choice (own_number r is 4 (lit< tt)) none in
+      let candidate = there_unless_0 r.vote.choice (ap (λ (v : HeadRow). v.votes.choice) is) some in
+      let adjuster = absent_at_0 r.adjust.choice (ap (λ (v : HeadRow). v.adjusts.choice) is) none in
       rw (candidate, adjuster, held r is fit) refl
 
-  pub may_not_adjust : get_or row 2 0 ≡ 0 → Reads may_adjust row (not (eqb (get_or row 2 0) 0))
+  pub may_not_adjust : row.votes.choice ≡ 0 → Reads may_adjust row (not (eqb (row.votes.choice) 0))
   unfolding may_adjust
-  may_not_adjust none r is fit = rw (none, is_none r.vote.choice (own_number r is 2 (lit< tt)) none) refl
+  may_not_adjust none r is fit = rw (none, absent_at_0 r.vote.choice (ap (λ (v : HeadRow). v.votes.choice) is) none) refl
 
-  pub may_not_adjust_again : get_or row 4 0 ≢ 0 → Reads may_adjust row (eqb (get_or row 4 0) 0)
+  pub may_not_adjust_again : row.adjusts.choice ≢ 0 → Reads may_adjust row (eqb (row.adjusts.choice) 0)
   unfolding may_adjust
   may_not_adjust_again some r is fit =
-      rw (ne_eqb _ _ some, is_some r.adjust.choice (own_number r is 4 (lit< tt)) some) (sym (and_false (is_number r.vote.choice) false refl))
+      rw (ne_eqb _ _ some, there_unless_0 r.adjust.choice (ap (λ (v : HeadRow). v.adjusts.choice) is) some) (sym (and_false (is_some r.vote.choice) false refl))
 
-module _ (row : List ℕ) (b : Bool) (may : Reads may_adjust row b) where
-  pub propose_adjusts : (row' : List ℕ) (x : Sent) (y : ℕ) → b ≡ true → Reads (λ (r : HeadRecord). median (vote_readings r r.n)) row y
-      → (get_or row 9 0 < 16 → Acts (adjust (get_or row 9 0) (reading y)) row row' x) → Acts propose row row' x
+module _ (row : HeadRow) (b : Bool) (may : Reads may_adjust row b) where
+  pub propose_adjusts : (row' : HeadRow) (x : Sent) (y : ℕ) → b ≡ true → Reads (λ (r : HeadRecord). median (vote_readings r r.n)) row y
+      → (row.own < 16 → Acts (adjust (row.own) (reading y)) row row' x) → Acts propose row row' x
   unfolding propose
   propose_adjusts row' x y t found adjusted r is fit =
-      let own = own_number r is 9 (lit< tt) in
+      let own = ap (λ (v : HeadRow). v.own) is in
       rw (sym (may r is fit) ∙ t)
       (subst (λ (u : Stepped). Gives u row' x) (ap₂ (λ a z. adjust a (reading z) r) own (found r is fit)) (adjusted (rw own fit.own) r is fit))
 

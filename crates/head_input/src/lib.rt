@@ -1,68 +1,34 @@
-// The numbers that a caller gives for one head: whether they fit.
+//! The numbers that a caller gives for one head: whether they fit.
 #![tactic(auto)]
 
-ghost use Rattle.std.specs.Prelude.{◌≡◌, not, ◌&&◌, ◌||◌, eqb};
-ghost use Rattle.protocol.specs.Words.{has_serial, has_sender, zero_where_unused};
+ghost use Rattle.std.specs.Prelude.{◌≡◌};
 ghost use Rattle.protocol.specs.Step.{input_fits};
+ghost use Rattle.head_input.specs.Parts.{sender_fits, carried_fits};
 
-use data_words::is_time;
+use data_words::{has_serial, is_time, zero_where_unused};
 use protocol::Input;
 
-fn has_serial(a: u32) -> bool
-    ensures { result ≡ has_serial a }
+// Whose frame it is, and which of that head's.
+fn sender_fits(n: u32, i: Input) -> bool
+    ensures { result ≡ sender_fits n i }
 {
-    a == 5 || a == 8
+    i.sender < n && i.serial <= 15 && zero_where_unused(i.action, i.sender, i.serial)
 }
 
-fn has_sender(a: u32) -> bool
-    ensures { result ≡ has_sender a }
+// Only a vote or an adjust carries something; only a vote has the mark "none", with a reading of 0.
+fn carried_fits(n: u32, i: Input) -> bool
+    ensures { result ≡ carried_fits n i }
 {
-    a == 2 || has_serial(a)
+    i.choice < n
+        && is_time(i.carried)
+        && (has_serial(i.action) || (i.choice == 0 && i.carried == 0))
+        && (!i.none || (i.action == 5 && i.carried == 0))
 }
 
-fn sender_fits(a: u32, sender: u32) -> bool
-    ensures { result ≡ (has_sender a || eqb sender 0) }
-{
-    has_sender(a) || sender == 0
-}
-
-fn serial_fits(a: u32, serial: u32) -> bool
-    ensures { result ≡ (has_serial a || eqb serial 0) }
-{
-    has_serial(a) || serial == 0
-}
-
-fn zero_where_unused(a: u32, sender: u32, serial: u32) -> bool
-    ensures { result ≡ zero_where_unused a sender serial }
-{
-    sender_fits(a, sender) && serial_fits(a, serial)
-}
-
-// Only a vote or an adjust carries something.
-fn carried_fits(a: u32, choice: u32, carried: u32) -> bool
-    ensures { result ≡ (has_serial a || (eqb choice 0 && eqb carried 0)) }
-{
-    has_serial(a) || (choice == 0 && carried == 0)
-}
-
-// Only a vote has the mark "none", with a reading of 0.
-fn none_fits(a: u32, none: bool, carried: u32) -> bool
-    ensures { result ≡ (not none || (eqb a 5 && eqb carried 0)) }
-{
-    !none || (a == 5 && carried == 0)
-}
-
-// Whether the numbers fit a bench of n heads (else cause 6).
+#[tactic(auto, using(crate::proofs::Parts::in_parts))]
+/// Whether the numbers fit a bench of n heads (else cause 6).
 pub fn input_fits(n: u32, i: Input) -> bool
     ensures { result ≡ input_fits n i }
 {
-    i.action <= 9
-        && (i.sender < n
-            && (i.serial <= 15
-                && (zero_where_unused(i.action, i.sender, i.serial)
-                    && (is_time(i.reading)
-                        && (i.choice < n
-                            && (is_time(i.carried)
-                                && (carried_fits(i.action, i.choice, i.carried)
-                                    && none_fits(i.action, i.none, i.carried))))))))
+    i.action <= 9 && sender_fits(n, i) && is_time(i.reading) && carried_fits(n, i)
 }

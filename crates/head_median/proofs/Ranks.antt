@@ -4,17 +4,17 @@
 use mathlib.Core.Path.{◌≡◌, refl, sym, ◌∙◌, ap}
 use mathlib.Core.Bool.{true}
 use mathlib.Core.List.{List, [], ◌∷◌}
-use Prim.Native.Nat.{ℕ, suc, ◌+◌, ◌-◌, ◌/◌, ◌%◌, ◌≤◌, ◌<◌}
+use Prim.Native.Nat.{ℕ, suc, ◌+◌, ◌-◌, ◌/◌, ◌%◌, ◌≤◌, ◌<◌, min}
 use native.Mathlib.Nat.{not-suc-le-zero}
 use native.Mathlib.Omega.{arith}
 use lib.Dec.{ltb, leb}
 use lib.ListN.{length}
 use borrow.Author.Tests.{ltb-true, ltb-false, leb-true, lt-ltb, le-ltb, le-leb}
 use Rattle.protocol.specs.Median.{ordered_at, median}
-use Rattle.protocol.proofs.Tests.{cases, cond_elim, and_left, and_right, and_both}
+use Rattle.protocol.proofs.Tests.{cases, and_left, and_right, and_both}
 use Rattle.protocol.proofs.Ranks.{Every, count, is_below, count_le, bit_le, below_rises, place_holds, past_last, few_below, more_upto, placed_counts, stands_in_order}
 use Rattle.protocol.proofs.Medians.{lower, upper, median_halves, median_middle}
-use Rattle.head_median.specs.Ranks.{covers, none, number_from, lesser_of, least_from}
+use Rattle.head_median.specs.Ranks.{covers, none, number_from, least_from}
 
 -- THE NUMBER AT AN INDEX
 
@@ -36,10 +36,12 @@ none_covers l i e =
 
 -- THE LEAST FROM A BOUND ON
 
-lesser_cases : (P : ℕ → Type 0) (b z m : ℕ) → m ≤ none → (z < b → P m) → (b ≤ z → z < m → P z) → (b ≤ z → m ≤ z → P m) → P (lesser_of (number_from b z) m)
+lesser_cases : (P : ℕ → Type 0) (b z m : ℕ) → m ≤ none → (z < b → P m) → (b ≤ z → z < m → P z) → (b ≤ z → m ≤ z → P m) → P (min m (number_from b z))
 lesser_cases P b z m top low new old =
-    cases (ltb z b) (λ t. rw (t, le-ltb none m top) (low (ltb-true z b t)))
-    (λ t. rw t (cond_elim P (ltb z m) (λ s. new (ltb-false z b t) (ltb-true z m s)) (λ s. old (ltb-false z b t) (ltb-false z m s))))
+    cases (ltb z b) (λ t. let e : min m none ≡ m = omega (arith, top) in rw (t, e) (low (ltb-true z b t)))
+    (λ t. cases (ltb z m)
+    (λ s. let h = ltb-true z m s in let e : min m z ≡ z = omega arith in rw (t, e) (new (ltb-false z b t) h))
+    (λ s. let h = ltb-false z m s in let e : min m z ≡ m = omega arith in rw (t, e) (old (ltb-false z b t) h)))
 
 pub least_top : (b : ℕ) (l : List ℕ) → least_from b l ≤ none
 unfolding least_from

@@ -1,5 +1,5 @@
 -- The rank of a number in a list, by counting, and what follows a number in order.
-use Rattle.std.specs.Prelude.{Bool, cond, ◌&&◌, List, [], ◌∷◌, ℕ, suc, ltb, leb}
+use Rattle.std.specs.Prelude.{Bool, cond, ◌&&◌, List, [], ◌∷◌, ℕ, suc, ltb, leb, min}
 use Rattle.protocol.proofs.Ranks.{count, is_below}
 
 -- x stands at the index once the list is in order: those below it are no more than the index, those up to it are more
@@ -14,10 +14,7 @@ none = 4294967295
 abbrev pub number_from : ℕ → ℕ → ℕ
 number_from bound z = cond (ltb z bound) none z
 
-abbrev pub lesser_of : ℕ → ℕ → ℕ
-lesser_of x y = cond (ltb x y) x y
-
 -- the least number of the list that is not below the bound
 unfoldable pub least_from : ℕ → List ℕ → ℕ
 least_from bound [] = none
-least_from bound (z ∷ l) = lesser_of (number_from bound z) (least_from bound l)
+least_from bound (z ∷ l) = min (least_from bound l) (number_from bound z)

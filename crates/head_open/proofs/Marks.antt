@@ -1,15 +1,19 @@
 -- A head's marks as one number: which marks it has, what one more makes of it, and which actions it closes.
-use Rattle.std.proofs.Common.{◌≡◌, ℕ, zero, suc, ◌+◌, ◌*◌, ◌/◌, ◌%◌, ◌^◌, ◌<◌, ◌≤◌, Bool, true, false, cond, ◌&&◌, eqb, ◌≢◌, List, [], ◌∷◌, length, get_or, set, sym, refl, ap, ◌∙◌, le_of_suc-le-suc, not-suc-le-zero, arith, lit<, ne_eqb}
+use Rattle.std.proofs.Common.{◌≡◌, ℕ, zero, suc, ◌+◌, ◌*◌, ◌/◌, ◌%◌, ◌^◌, ◌<◌, ◌≤◌, Bool, true, false, cond, ◌&&◌, eqb, ◌≢◌, List, [], ◌∷◌, length, get_or, set, sym, refl, ap, ◌∙◌, le_of_suc-le-suc, not-suc-le-zero, arith, lit<, ne_eqb, is_some}
 use native.Mathlib.Nat.{pow-succ', div-div-eq-div-mul}
 use Rattle.protocol.specs.declared.Reading.{Reading}
 use Rattle.protocol.specs.declared.HeadRecord.{HeadRecord}
+use Rattle.protocol.specs.declared.Marks.{Marks}
 use Rattle.protocol.specs.declared.Input.{Input}
 use Rattle.protocol.specs.declared.Action.{Action}
 use Rattle.protocol.specs.declared.Action.TheVariants.{Look, StartSent, StartDelivered, StartConfirmed, VoteTurn, VoteDelivered, VoteClose, AdjustTurn, AdjustDelivered, AdjustClose}
 use Rattle.protocol.specs.Words.{has_serial}
-use Rattle.protocol.specs.Record.{is_number, mark_number, marks_number}
+use Rattle.protocol.specs.Record.{mark_number, marks_number}
 use Rattle.protocol.specs.Step.{take_turn, close, choose, with_marks, with_vote, with_adjust, number, is_own_frame, is_closed_by_marks, has_mark, closed_by, is_spent, actions_of, action_of}
 use Rattle.protocol.proofs.Tests.{cases, is_1}
+
+pub marks_are : (m : Marks) {n : ℕ} → m.0 ≡ n → m ≡ record { 0 = n }
+marks_are m e = rw (sym e) refl
 
 -- ANY MARKS: the first has weight 1, each further one twice the weight of the one before
 abbrev pub weight_of : List Bool → ℕ
@@ -50,7 +54,7 @@ one_more (b ∷ l) (suc k) h e = let ih = one_more l k (le_of_suc-le-suc h) e in
 -- A HEAD'S MARKS, in the order of their weights
 abbrev pub seven_marks : HeadRecord → List Bool
 seven_marks r =
-    r.started ∷ r.confirmed ∷ r.vote.turn ∷ r.vote.closed ∷ r.adjust.turn ∷ r.adjust.closed ∷ is_number r.vote.choice ∷ []
+    r.started ∷ r.confirmed ∷ r.vote.turn ∷ r.vote.closed ∷ r.adjust.turn ∷ r.adjust.closed ∷ is_some r.vote.choice ∷ []
 
 times : (b : Bool) (w : ℕ) → mark_number b w ≡ w * mark_number b 1
 times true w = omega arith
@@ -65,7 +69,7 @@ number_is r =
       times r.vote.closed 8,
       times r.adjust.turn 16,
       times r.adjust.closed 32,
-      times (is_number r.vote.choice) 64,
+      times (is_some r.vote.choice) 64,
     ) (omega arith)
 
 pub marks_below_128 : (r : HeadRecord) → marks_number r < 128
@@ -93,7 +97,7 @@ has_adjust_turn r = has_mark_lem r 4 (lit< tt)
 pub has_adjust_closed : (r : HeadRecord) → has_mark (marks_number r) 32 ≡ r.adjust.closed
 has_adjust_closed r = has_mark_lem r 5 (lit< tt)
 
-pub has_candidate : (r : HeadRecord) → has_mark (marks_number r) 64 ≡ is_number r.vote.choice
+pub has_candidate : (r : HeadRecord) → has_mark (marks_number r) 64 ≡ is_some r.vote.choice
 has_candidate r = has_mark_lem r 6 (lit< tt)
 
 -- ONE MARK MORE: the number with mark k is that of every record which has r's marks and mark k
@@ -165,21 +169,6 @@ pub made_of : (r : HeadRecord) (i : Input) → i.action ≤ 9
 unfolding action_of
 made_of r i h = made r i i.action h
 
--- no other action is closed by the marks
-pub not_closed : (a m : ℕ) → a ≢ 1 → a ≢ 3 → a ≢ 4 → a ≢ 6 → a ≢ 7 → a ≢ 9 → false ≡ closed_by a m
-unfolding closed_by
-not_closed zero m n1 n3 n4 n6 n7 n9 = refl
-not_closed (suc zero) m n1 n3 n4 n6 n7 n9 = absurd (n1 refl)
-not_closed (suc (suc zero)) m n1 n3 n4 n6 n7 n9 = refl
-not_closed (suc (suc (suc zero))) m n1 n3 n4 n6 n7 n9 = absurd (n3 refl)
-not_closed (suc (suc (suc (suc zero)))) m n1 n3 n4 n6 n7 n9 = absurd (n4 refl)
-not_closed (suc (suc (suc (suc (suc zero))))) m n1 n3 n4 n6 n7 n9 = refl
-not_closed (suc (suc (suc (suc (suc (suc zero)))))) m n1 n3 n4 n6 n7 n9 = absurd (n6 refl)
-not_closed (suc (suc (suc (suc (suc (suc (suc zero))))))) m n1 n3 n4 n6 n7 n9 = absurd (n7 refl)
-not_closed (suc (suc (suc (suc (suc (suc (suc (suc zero)))))))) m n1 n3 n4 n6 n7 n9 = refl
-not_closed (suc (suc (suc (suc (suc (suc (suc (suc (suc zero))))))))) m n1 n3 n4 n6 n7 n9 = absurd (n9 refl)
-not_closed (suc (suc (suc (suc (suc (suc (suc (suc (suc (suc a)))))))))) m n1 n3 n4 n6 n7 n9 = refl
-
--- and none but 6, 7 and 9 is spent
+-- none but 6, 7 and 9 is spent
 pub not_spent : (a : ℕ) (vote adjust : Bool) → a ≢ 6 → a ≢ 7 → a ≢ 9 → false ≡ is_spent a vote adjust
 not_spent a vote adjust n6 n7 n9 = rw (ne_eqb a 6 n6, ne_eqb a 7 n7, ne_eqb a 9 n9) refl

@@ -1,30 +1,23 @@
 -- The code's tests in their order make up row_in_range.
+use Rattle.std.specs.Prelude.{is_some}
 use mathlib.Core.Path.{◌≡◌}
 use mathlib.Core.Bool.{Bool, ◌&&◌, ◌||◌, and_assoc}
-use mathlib.Core.List.{List}
-use Prim.Native.Nat.{ℕ}
 use lib.Dec.{ltb, eqb}
-use lib.ListN.{get_or}
-use Rattle.protocol.specs.Base.{◌⇒◌}
+use Rattle.protocol.specs.declared.HeadRow.{HeadRow}
 use Rattle.protocol.specs.Words.{is_time, heads_fit}
-use Rattle.protocol.specs.Record.{is_number, phase_in_range, marks_in_range, record_in_range, sent_in_range}
-use Rattle.protocol.specs.Step.{has_mark}
+use Rattle.protocol.specs.Record.{votes, adjusts, phase_in_range, marks_in_range, record_in_range}
 use Rattle.protocol.specs.Row.{number_in, record_in, row_fits, row_in_range}
-use Rattle.head_ranges.specs.Parts.{marks_allowed, senders_in_range}
+use Rattle.head_ranges.specs.Parts.{own_fits, times_fit, phase_fits, marks_allowed, senders_in_range}
 
-regroup : (x a b c d e z : Bool) → (x && ((a && b) && ((c && (d && e)) && z))) ≡ (x && (a && (b && (c && (d && (e && z))))))
-regroup x a b c d e z = simp and_assoc
+regroup : (x a b c d e p q m z : Bool)
+    → (x && (a && (b && (c && (d && (e && (p && (q && (m && z))))))))) ≡ ((x && ((a && b) && (c && (d && e)))) && ((p && (q && m)) && z))
+regroup x a b c d e p q m z = simp and_assoc
 
-pub in_parts : (w : List ℕ)
-    → (row_fits w
-    && ((heads_fit (get_or w 7 0) (get_or w 8 0) && ltb (get_or w 9 0) (get_or w 7 0))
-    && ((is_time (get_or w 0 0) && (is_time (get_or w 6 0) && (is_number (number_in (get_or w 4 0)) || eqb (get_or w 6 0) 0)))
-    && ((sent_in_range (get_or w 7 0) (number_in (get_or w 2 0)) (get_or w 3 0) && (eqb (get_or w 10 0) 1 ⇒ has_mark (get_or w 1 0) 8))
-    && ((sent_in_range (get_or w 7 0) (number_in (get_or w 4 0)) (get_or w 5 0) && (eqb (get_or w 11 0) 1 ⇒ has_mark (get_or w 1 0) 32))
-    && (marks_allowed (get_or w 1 0)
-    && senders_in_range (record_in w)))))))
-    ≡ row_in_range w
+pub in_parts : (w : HeadRow)
+    → row_in_range w
+    ≡ ((row_fits w && (own_fits w && times_fit w))
+    && ((phase_fits votes w 8 && (phase_fits adjusts w 32 && marks_allowed w.marks.0)) && senders_in_range (record_in w)))
 unfolding row_in_range record_in_range phase_in_range marks_in_range senders_in_range record_in
 in_parts w =
-    regroup (row_fits w) (heads_fit (get_or w 7 0) (get_or w 8 0)) (ltb (get_or w 9 0) (get_or w 7 0)) (is_time (get_or w 0 0)) (is_time (get_or w 6 0))
-    (is_number (number_in (get_or w 4 0)) || eqb (get_or w 6 0) 0) _
+    regroup (row_fits w) (heads_fit w.heads w.faulty) (ltb w.own w.heads) (is_time w.last) (is_time w.adjustment)
+    (is_some (number_in w.adjusts.choice) || eqb w.adjustment 0) (phase_fits votes w 8) (phase_fits adjusts w 32) (marks_allowed w.marks.0) _

@@ -1,21 +1,19 @@
 -- The sum over a row's numbers by sender is 0 exactly if what is kept of each sender is in its ranges.
 -- Main results: `six_counted`; `sum_next`, `sum_fits`, `sum_tested`.
+use Rattle.protocol.specs.declared.Reading.{Reading}
+use Rattle.std.specs.Prelude.{Option, Some, None, is_some}
 use mathlib.Core.Path.{◌≡◌, refl, sym, ◌∙◌, ap, ap₂}
 use mathlib.Core.Bool.{Bool, true, false, cond, not, ◌&&◌, ◌||◌, and_assoc, and_comm}
-use mathlib.Core.List.{List}
 use Prim.Native.Nat.{ℕ, zero, suc, ◌+◌, ◌-◌, ◌*◌, ◌^◌, ◌≤◌, ◌<◌}
 use native.Mathlib.Numerals.{add-one}
 use native.Mathlib.Omega.{arith}
 use lib.Dec.{ltb, eqb, leb-suc-suc}
 use lib.ListN.{get_or}
 use borrow.Author.Tests.{ltb-true, ltb-false, lt-ltb, le-ltb, eqb-true, eqb-false, eq-eqb, ne_eqb}
-use Rattle.protocol.specs.declared.OptReading.{OptReading}
-use Rattle.protocol.specs.declared.OptReading.TheVariants.{NoReading, SomeReading}
-use Rattle.protocol.specs.declared.OptNumber.{OptNumber}
-use Rattle.protocol.specs.declared.OptNumber.TheVariants.{NoNumber, SomeNumber}
 use Rattle.protocol.specs.declared.Sender.{Sender}
+use Rattle.protocol.specs.declared.HeadRow.{HeadRow}
 use Rattle.protocol.specs.Base.{◌⇒◌, all_below}
-use Rattle.protocol.specs.Record.{is_reading, is_number, reading_in_range, serial_in_range, name_in_range, sender_in_range, sender_is_none, same_number, reading_counts}
+use Rattle.protocol.specs.Record.{reading_in_range, serial_in_range, name_in_range, sender_in_range, sender_is_none, same_number, reading_counts}
 use Rattle.protocol.specs.Row.{number_in, reading_in, sender_in, record_in}
 use Rattle.protocol.proofs.Tests.{cases, cond_elim, and_false, and_true, eqb_same}
 use Rattle.head_ranges.specs.Parts.{greatest, exceeds, counted_limit, greatest_vote, beyond, senders_in_range}
@@ -35,10 +33,10 @@ within_range most k =
     cases (ltb k most) (λ t. let below = ltb-true k most t in rw (t, le-ltb most (suc k) (omega arith)) refl)
     (λ t. let above = ltb-false k most t in rw (t, lt-ltb most (suc k) (omega arith)) refl)
 
-reading_none : (x : ℕ) → within 0 x ≡ not (is_reading (reading_in x))
+reading_none : (x : ℕ) → within 0 x ≡ not (is_some (reading_in x))
 reading_none x = within_0 x ∙ cases (eqb x 0) (λ t. rw t refl) (λ t. rw t refl)
 
-number_none : (x : ℕ) → within 0 x ≡ not (is_number (number_in x))
+number_none : (x : ℕ) → within 0 x ≡ not (is_some (number_in x))
 number_none x = within_0 x ∙ cases (eqb x 0) (λ t. rw t refl) (λ t. rw t refl)
 
 reading_within : (x : ℕ) → within (2 ^ 28) x ≡ reading_in_range (reading_in x)
@@ -53,9 +51,9 @@ name_within n (suc k) =
     let same : suc k - 1 ≡ k = omega arith in
     within_range n k ∙ rw (ne_eqb (suc k) 0 (λ z. omega arith), same) refl
 
-below_16 : (m : OptNumber) → name_in_range 16 m ≡ serial_in_range m
-below_16 NoNumber = refl
-below_16 (SomeNumber k) = leb-suc-suc k 15
+below_16 : (m : Option ℕ) → name_in_range 16 m ≡ serial_in_range m
+below_16 None = refl
+below_16 (Some k) = leb-suc-suc k 15
 
 serial_within : (x : ℕ) → within 16 x ≡ serial_in_range (number_in x)
 serial_within x = name_within 16 x ∙ below_16 (number_in x)
@@ -63,15 +61,15 @@ serial_within x = name_within 16 x ∙ below_16 (number_in x)
 -- THE VOTE READING of another sender counts if its latest vote names the candidate
 
 -- where no reading counts, none alone is in range; where each does, each below 2²⁸
-none_in_range : (x : OptReading) → not (is_reading x) ≡ (reading_in_range x && (is_reading x ⇒ false))
-none_in_range NoReading = refl
-none_in_range (SomeReading x) = sym (and_false (reading_in_range (SomeReading x)) false refl)
+none_in_range : (x : Option Reading) → not (is_some x) ≡ (reading_in_range x && (is_some x ⇒ false))
+none_in_range None = refl
+none_in_range (Some x) = sym (and_false (reading_in_range (Some x)) false refl)
 
-any_in_range : (x : OptReading) → reading_in_range x ≡ (reading_in_range x && (is_reading x ⇒ true))
-any_in_range NoReading = refl
-any_in_range (SomeReading x) = sym (and_true (reading_in_range (SomeReading x)))
+any_in_range : (x : Option Reading) → reading_in_range x ≡ (reading_in_range x && (is_some x ⇒ true))
+any_in_range None = refl
+any_in_range (Some x) = sym (and_true (reading_in_range (Some x)))
 
-counted_within : (counts : Bool) (x : ℕ) → within (cond counts (2 ^ 28) 0) x ≡ (reading_in_range (reading_in x) && (is_reading (reading_in x) ⇒ counts))
+counted_within : (counts : Bool) (x : ℕ) → within (cond counts (2 ^ 28) 0) x ≡ (reading_in_range (reading_in x) && (is_some (reading_in x) ⇒ counts))
 counted_within true x = reading_within x ∙ any_in_range (reading_in x)
 counted_within false x = reading_none x ∙ none_in_range (reading_in x)
 
@@ -93,7 +91,7 @@ module _ (own : Bool) (latest candidate : ℕ) where
   vote_most here = cond own (cond here (2 ^ 28) 0) (cond (eqb latest candidate) (cond here (counted_limit candidate) 0) 0)
 
   abbrev vote_counts : ℕ → Bool
-  vote_counts x = own || (is_reading (reading_in x) ⇒ same_number (number_in latest) (number_in candidate))
+  vote_counts x = own || (is_some (reading_in x) ⇒ same_number (number_in latest) (number_in candidate))
 
 vote_within : (own : Bool) (latest candidate x : ℕ) → within (vote_most own latest candidate true) x ≡ (reading_in_range (reading_in x) && vote_counts own latest candidate x)
 vote_within true latest candidate x = reading_within x ∙ sym (and_true (reading_in_range (reading_in x)))
@@ -153,38 +151,38 @@ six_fit false own n candidate a b c d e f =
     ∙ ap₂ ◌&&◌ (reading_none a) (ap₂ ◌&&◌ (ap (λ (most : ℕ). within most b) (no_vote_most own e candidate) ∙ reading_none b)
     (ap₂ ◌&&◌ (number_none c) (ap₂ ◌&&◌ (number_none d) (ap₂ ◌&&◌ (number_none e) (number_none f)))))
 
-module _ (w : List ℕ) (p : ℕ) where
+module _ (w : HeadRow) (p : ℕ) where
   abbrev heads : ℕ
-  heads = get_or w 7 0
+  heads = w.heads
 
   beyond_at_most_6 : beyond w p ≤ 6
   unfolding beyond
   beyond_at_most_6 =
-      at_most_6 (greatest heads p (2 ^ 28)) (greatest_vote w p) (greatest heads p 16) (greatest heads p heads) (get_or w (16 + p) 0)
-      (get_or w (32 + p) 0) (get_or w (48 + p) 0) (get_or w (64 + p) 0) (get_or w (80 + p) 0) (get_or w (96 + p) 0)
+      at_most_6 (greatest heads p (2 ^ 28)) (greatest_vote w p) (greatest heads p 16) (greatest heads p heads) (get_or w.start_readings p 0)
+      (get_or w.vote_readings p 0) (get_or w.votes.serials p 0) (get_or w.adjusts.serials p 0) (get_or w.votes.latest p 0) (get_or w.adjusts.latest p 0)
 
   -- counted one by one
   pub six_counted : (reading vote serial name a b c d e f : ℕ)
       → reading ≡ greatest heads p (2 ^ 28) → vote ≡ greatest_vote w p → serial ≡ greatest heads p 16 → name ≡ greatest heads p heads
-      → a ≡ exceeds reading (get_or w (16 + p) 0) → b ≡ exceeds vote (get_or w (32 + p) 0)
-      → c ≡ exceeds serial (get_or w (48 + p) 0) → d ≡ exceeds serial (get_or w (64 + p) 0)
-      → e ≡ exceeds name (get_or w (80 + p) 0) → f ≡ exceeds name (get_or w (96 + p) 0) → a + b + (c + d) + (e + f) ≡ beyond w p
+      → a ≡ exceeds reading (get_or w.start_readings p 0) → b ≡ exceeds vote (get_or w.vote_readings p 0)
+      → c ≡ exceeds serial (get_or w.votes.serials p 0) → d ≡ exceeds serial (get_or w.adjusts.serials p 0)
+      → e ≡ exceeds name (get_or w.votes.latest p 0) → f ≡ exceeds name (get_or w.adjusts.latest p 0) → a + b + (c + d) + (e + f) ≡ beyond w p
   unfolding beyond
   six_counted reading vote serial name a b c d e f g v h i j k l m o q = rw (j, k, l, m, o, q, g, v, h, i) refl
 
   abbrev sender_fits : Bool
   sender_fits =
-      cond (ltb p heads) (sender_in_range heads (sender_in w p) && vote_counts (eqb p (get_or w 9 0)) (get_or w (80 + p) 0) (get_or w 2 0) (get_or w (32 + p) 0))
+      cond (ltb p heads) (sender_in_range heads (sender_in w p) && vote_counts (eqb p w.own) (get_or w.votes.latest p 0) w.votes.choice (get_or w.vote_readings p 0))
       (sender_is_none (sender_in w p))
 
   beyond_zero : eqb (beyond w p) 0 ≡ sender_fits
   unfolding beyond greatest_vote
   beyond_zero =
-      six_fit (ltb p heads) (eqb p (get_or w 9 0)) heads (get_or w 2 0) (get_or w (16 + p) 0) (get_or w (32 + p) 0) (get_or w (48 + p) 0)
-      (get_or w (64 + p) 0) (get_or w (80 + p) 0) (get_or w (96 + p) 0)
+      six_fit (ltb p heads) (eqb p w.own) heads w.votes.choice (get_or w.start_readings p 0) (get_or w.vote_readings p 0) (get_or w.votes.serials p 0)
+      (get_or w.adjusts.serials p 0) (get_or w.votes.latest p 0) (get_or w.adjusts.latest p 0)
 
 -- ALL SENDERS
-module _ (w : List ℕ) where
+module _ (w : HeadRow) where
   -- the sum over the senders below p
   abbrev pub beyond_below : ℕ → ℕ
   beyond_below zero = 0
@@ -211,5 +209,5 @@ module _ (w : List ℕ) where
     pub sum_fits : (k : ℕ) → k ≡ beyond w p → p < 16 → bad + k ≤ 96
     sum_fits k e below = let s = sum_at_most p in let six = beyond_at_most_6 w p in omega arith
 
-    pub sum_tested : p ≤ 16 → 16 ≤ p → eqb bad 0 ≡ senders_in_range (record_in w)
-    sum_tested below end = let all : p ≡ 16 = omega arith in ap (λ (x : ℕ). eqb x 0) (is ∙ ap beyond_below all) ∙ none_beyond
+    pub sum_tested : p ≡ 16 → eqb bad 0 ≡ senders_in_range (record_in w)
+    sum_tested all = ap (λ (x : ℕ). eqb x 0) (is ∙ ap beyond_below all) ∙ none_beyond

@@ -1,5 +1,6 @@
 -- Of a record in its ranges nothing is cut, since each of its head numbers, counts and serials has room in a byte.
 -- Main results: `first_read`, `all_read`, `nothing_cut`.
+use Rattle.std.specs.Prelude.{Option, Some, None, unwrap_or}
 use mathlib.Core.Path.{◌≡◌, sym, ◌∙◌, ap}
 use mathlib.Core.Bool.{true}
 use mathlib.Core.List.{List, map}
@@ -9,13 +10,12 @@ use lib.Dec.{ltb}
 use lib.ListN.{length, get_or, replicate, length-map, get_or-map}
 use lib.Seq.{ext_get_or}
 use borrow.Author.Tests.{ltb-true, ltb-false}
-use Rattle.protocol.specs.declared.OptNumber.{OptNumber}
-use Rattle.protocol.specs.declared.OptNumber.TheVariants.{NoNumber, SomeNumber}
 use Rattle.protocol.specs.declared.Sender.{Sender}
 use Rattle.protocol.specs.declared.Phase.{Phase}
 use Rattle.protocol.specs.declared.HeadRecord.{HeadRecord}
+use Rattle.protocol.specs.declared.HeadRow.{HeadRow}
 use Rattle.protocol.specs.Base.{table}
-use Rattle.protocol.specs.Record.{votes, adjusts, number_or0, no_sender, record_in_range}
+use Rattle.protocol.specs.Record.{votes, adjusts, no_sender, record_in_range}
 use Rattle.protocol.specs.Row.{sender_in, record_in, row_fits, row_in_range}
 use Rattle.protocol.proofs.Tests.{cases, and_right}
 use Rattle.protocol.proofs.Tables.{length_table, table_at}
@@ -24,11 +24,11 @@ use Rattle.data_values.proofs.Numbers.{number_same}
 use Rattle.head_record.specs.Bytes.{cut_sender, cut_phase, cut, Holds}
 
 -- senders, each read from its numbers: the first, and all sixteen
-pub first_read : (w : List ℕ) (k : Sender) → k ≡ cut_sender (sender_in w 0) → (p : ℕ) → p < 1 → get_or (replicate 16 k) p no_sender ≡ cut_sender (sender_in w p)
+pub first_read : (w : HeadRow) (k : Sender) → k ≡ cut_sender (sender_in w 0) → (p : ℕ) → p < 1 → get_or (replicate 16 k) p no_sender ≡ cut_sender (sender_in w p)
 first_read w k e zero lt = e
 first_read w k e (suc p) lt = absurd (omega arith)
 
-pub all_read : (w : List ℕ) (l : List Sender) → length l ≡ 16 → ((p : ℕ) → p < 16 → get_or l p no_sender ≡ cut_sender (sender_in w p))
+pub all_read : (w : HeadRow) (l : List Sender) → length l ≡ 16 → ((p : ℕ) → p < 16 → get_or l p no_sender ≡ cut_sender (sender_in w p))
     → l ≡ map cut_sender (table (sender_in w) 0 16)
 all_read w l long each =
     let all = table (sender_in w) 0 16 in
@@ -57,9 +57,9 @@ senders_same n l small long kept =
     (λ p lt. get_or-map cut_sender l p no_sender
     ∙ sender_same n p (get_or l p no_sender) small (omega (arith, lt, long, length-map l cut_sender)) (kept p))
 
-choice_below : (n : ℕ) (x : OptNumber) (sent : ℕ) → n ≤ 16 → SentInRange n x sent → (number_or0 x < 256) × (sent < 256)
-choice_below n NoNumber sent small h = (omega arith, omega arith)
-choice_below n (SomeNumber v) sent small h = (omega arith, omega arith)
+choice_below : (n : ℕ) (x : Option ℕ) (sent : ℕ) → n ≤ 16 → SentInRange n x sent → (unwrap_or x 0 < 256) × (sent < 256)
+choice_below n None sent small h = (omega arith, omega arith)
+choice_below n (Some v) sent small h = (omega arith, omega arith)
 
 phase_same : (n : ℕ) (p : Phase) → n ≤ 16 → SentInRange n p.choice p.sent → cut_phase p ≡ p
 phase_same n p small h =
@@ -80,6 +80,6 @@ uncut r e long =
       senders_same r.n r.senders small long h.kept,
     )
 
-pub nothing_cut : (w : List ℕ) (r : HeadRecord) → r ≡ cut (record_in w) → Holds w r
+pub nothing_cut : (w : HeadRow) (r : HeadRecord) → r ≡ cut (record_in w) → Holds w r
 unfolding row_in_range record_in
 nothing_cut w r e h = e ∙ uncut (record_in w) (and_right (row_fits w) _ h) (length_table (sender_in w) 0 16)

@@ -10,6 +10,7 @@ use lib.ListN.{length, get_or, set, replicate, length-set}
 use lib.Seq.{ext_get_or}
 use Rattle.protocol.specs.declared.Sender.{Sender}
 use Rattle.protocol.specs.declared.HeadRecord.{HeadRecord}
+use Rattle.protocol.specs.declared.HeadRow.{HeadRow}
 use Rattle.protocol.specs.Record.{no_sender}
 use Rattle.protocol.specs.Row.{row_of}
 use Rattle.protocol.proofs.Tables.{fill_next}
@@ -22,12 +23,12 @@ module _ (l : List Sender) where
   sender p = get_or l p no_sender
 
   -- the numbers of the senders below i written, and those senders kept
-  abbrev pub written_below : List ℕ → ℕ → List ℕ
+  abbrev pub written_below : HeadRow → ℕ → HeadRow
   written_below w zero = w
   written_below w (suc i) = with_numbers (written_below w i) i (sender i)
 
-  pub next_written : (w row after : List ℕ) (i : ℕ) → row ≡ written_below w i → after ≡ with_numbers row i (sender i) → after ≡ written_below w (i + 1)
-  next_written w row after i is e = rw add-one (e ∙ ap (λ (v : List ℕ). with_numbers v i (sender i)) is)
+  pub next_written : (w row after : HeadRow) (i : ℕ) → row ≡ written_below w i → after ≡ with_numbers row i (sender i) → after ≡ written_below w (i + 1)
+  next_written w row after i is e = rw add-one (e ∙ ap (λ (v : HeadRow). with_numbers v i (sender i)) is)
 
   abbrev kept : ℕ → List Sender
   kept zero = replicate 16 no_sender
@@ -44,12 +45,12 @@ module _ (l : List Sender) where
   row_written : (r : HeadRecord) (i : ℕ) → i ≤ 16 → written_below (row_of (bare r)) i ≡ row_of (with_senders r (kept i))
   row_written r zero h = refl
   row_written r (suc i) h =
-      ap (λ (w : List ℕ). with_numbers w i (sender i)) (row_written r i (omega arith))
-      ∙ sender_written (with_senders r (kept i)) (size i) i (omega arith) (sender i)
+      ap (λ (w : HeadRow). with_numbers w i (sender i)) (row_written r i (omega arith))
+      ∙ sender_written (with_senders r (kept i)) i (sender i)
 
-  pub all_written : length l ≡ 16 → (w after : List ℕ) (i : ℕ) → i ≡ 16 → after ≡ written_below w i → Completes w l after
+  pub all_written : length l ≡ 16 → (w after : HeadRow) (i : ℕ) → i ≡ 16 → after ≡ written_below w i → Completes w l after
   all_written long w after i end e r is same =
-      e ∙ ap (λ (k : ℕ). written_below w k) end ∙ ap (λ (v : List ℕ). written_below v 16) is ∙ row_written r 16 (omega arith)
+      e ∙ ap (λ (k : ℕ). written_below w k) end ∙ ap (λ (v : HeadRow). written_below v 16) is ∙ row_written r 16 (omega arith)
       ∙ ap (λ (m : List Sender). row_of (with_senders r m)) (all_kept ∙ same)
     where
       all_kept : kept 16 ≡ l

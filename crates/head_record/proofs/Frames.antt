@@ -1,5 +1,7 @@
 -- The frame whose numbers a step gives is found again from them, since its serial and its choice are bytes.
 -- Main results: `is_start`, `is_vote`, `is_adjust`, `is_none`.
+use Rattle.protocol.specs.declared.Reading.{Reading}
+use Rattle.std.specs.Prelude.{Option, Some, None}
 use mathlib.Core.Path.{◌≡◌, refl, ◌∙◌, ap}
 use mathlib.Core.Bool.{cond}
 use mathlib.Core.Logic.{◌≢◌}
@@ -7,13 +9,11 @@ use Prim.Native.Nat.{◌+◌, ◌-◌, ◌%◌, ◌^◌, ◌<◌}
 use native.Mathlib.Omega.{arith}
 use lib.Dec.{eqb}
 use borrow.Author.Tests.{lt-ltb, ne_eqb}
-use Rattle.protocol.specs.declared.OptReading.{OptReading}
-use Rattle.protocol.specs.declared.OptReading.TheVariants.{NoReading, SomeReading}
-use Rattle.protocol.specs.declared.Sent.{Sent}
-use Rattle.protocol.specs.declared.Frame.{Frame}
-use Rattle.protocol.specs.declared.Frame.TheVariants.{NoFrame, Start, Vote, Adjust}
+use Rattle.head_row.specs.declared.Sent.{Sent}
+use Rattle.protocol.specs.Types.{Frame, NoFrame, Start, Vote, Adjust}
 use Rattle.protocol.specs.Record.{reading_or0, reading}
-use Rattle.protocol.specs.Row.{reading_plus1, reading_in, sent_of}
+use Rattle.protocol.specs.Row.{reading_plus1, reading_in}
+use Rattle.head_row.specs.Sent.{sent_of}
 use Rattle.head_record.specs.Bytes.{FrameSized, StandsFor}
 use Rattle.head_record.proofs.Cutting.{byte_same}
 
@@ -27,9 +27,9 @@ adjust_in s = Adjust (s.serial % 256) (s.choice % 256) (reading s.carried)
 abbrev frame_in : Sent → Frame
 frame_in s = cond (eqb s.kind 2) Start (cond (eqb s.kind 5) (vote_in s) (cond (eqb s.kind 8) (adjust_in s) NoFrame))
 
-reading_back : (x : OptReading) → reading_or0 x < 2 ^ 28 → reading_in (reading_plus1 x) ≡ x
-reading_back NoReading lt = refl
-reading_back (SomeReading x) lt =
+reading_back : (x : Option Reading) → reading_or0 x < 2 ^ 28 → reading_in (reading_plus1 x) ≡ x
+reading_back None lt = refl
+reading_back (Some x) lt =
     let e : x.0 + 1 - 1 ≡ x.0 = omega arith in
     simp (lt-ltb x.0 (2 ^ 28) lt, ne_eqb (x.0 + 1) 0 (λ z. omega arith), e)
 

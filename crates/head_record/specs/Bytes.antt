@@ -3,12 +3,13 @@ use Rattle.std.specs.Prelude.{◌≡◌, true, List, map, ℕ, ◌%◌, ◌^◌,
 use Rattle.protocol.specs.declared.Sender.{Sender}
 use Rattle.protocol.specs.declared.Phase.{Phase}
 use Rattle.protocol.specs.declared.HeadRecord.{HeadRecord}
-use Rattle.protocol.specs.declared.Sent.{Sent}
-use Rattle.protocol.specs.declared.Frame.{Frame}
-use Rattle.protocol.specs.declared.Frame.TheVariants.{NoFrame, Start, Vote, Adjust}
+use Rattle.protocol.specs.declared.HeadRow.{HeadRow}
+use Rattle.head_row.specs.declared.Sent.{Sent}
+use Rattle.protocol.specs.Types.{Frame, NoFrame, Start, Vote, Adjust}
 use Rattle.protocol.specs.Record.{reading_or0}
 use Rattle.protocol.specs.Step.{has_mark}
-use Rattle.protocol.specs.Row.{number_in, record_in, row_in_range, sent_of}
+use Rattle.protocol.specs.Row.{number_in, record_in, row_in_range}
+use Rattle.head_row.specs.Sent.{sent_of}
 use Rattle.data_values.specs.Numbers.{cut_number}
 
 -- the eight lowest bits of each
@@ -33,13 +34,8 @@ cut r =
       senders = map cut_sender r.senders;
     }
 
--- a phase from its numbers, by the weights of its marks
-abbrev pub phase_with : ℕ → ℕ → ℕ → ℕ → ℕ → ℕ → Phase
-phase_with marks turn closed early choice sent =
-    record { turn = has_mark marks turn; closed = has_mark marks closed; early = eqb early 1; choice = number_in choice; sent = sent }
-
 -- r is the record that the row holds, if the row is in its ranges
-abbrev pub Holds : List ℕ → HeadRecord → Type 0
+abbrev pub Holds : HeadRow → HeadRecord → Type 0
 Holds w r = row_in_range w ≡ true → r ≡ record_in w
 
 -- a frame whose serial and choice are bytes, and whose reading has 28 bits

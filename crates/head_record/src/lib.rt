@@ -1,37 +1,36 @@
-// A head's record by value and its row: the row of a record, the record that a row in its ranges holds, and a frame from its
-// numbers.
-#![tactic(auto)]
+//! A head's record by value and its row: the row of a record, the record that a row in its ranges holds, and a frame from its
+//! numbers.
+#![tactic(auto, unfolding(protocol::specs::Record::marks_number))]
 
 ghost use Rattle.std.specs.Prelude.{◌≡◌, map, ◌%◌, ◌<◌, ◌≤◌};
 ghost use Rattle.protocol.specs.Base.{table};
-ghost use Rattle.protocol.specs.Record.{mark_number, marks_number};
-ghost use Rattle.protocol.specs.Row.{number_plus1, reading_in, reading_plus1, row_of, sender_in};
-ghost use Rattle.head_record.specs.Filling.{bare, with_numbers, Completes};
-ghost use Rattle.head_record.specs.Bytes.{cut_phase, cut_sender, phase_with, Holds, StandsFor};
+ghost use Rattle.protocol.specs.Record.{mark_number, marks_number, weight_of};
+ghost use Rattle.protocol.specs.Row.{number_plus1, reading_plus1, row_of, phase_in, sender_in};
+ghost use Rattle.head_record.specs.Filling.{bare, bare_phase, with_numbers, Completes};
+ghost use Rattle.head_record.specs.Bytes.{cut_phase, cut_sender, Holds, StandsFor};
 
-use data_values::{is_number, number_in};
-use head_open::has_mark;
+use data_values::{number_in, reading_in};
+use head_row::Sent;
 use protocol::{
-    Frame, HeadRecord, OptNumber, OptReading, Phase, ROW_LENGTH, Reading, Row, Sender, Sent,
-    TIME_LIMIT, at, mark,
+    Frame, HeadRecord, HeadRow, Mark, Marks, Phase, PhaseRow, Reading, Sender, TIME_LIMIT,
 };
 
-fn number_plus_1(k: OptNumber) -> u32
+fn number_plus_1(k: Option<u8>) -> u32
     ensures { result ≡ number_plus1 k }
 {
     match k {
-        OptNumber::NoNumber => 0,
-        OptNumber::SomeNumber(j) => j as u32 + 1,
+        None => 0,
+        Some(j) => j as u32 + 1,
     }
 }
 
 // A reading beyond 28 bits, which no record in its ranges has, is written as the lowest of them.
-fn reading_plus_1(k: OptReading) -> u32
+fn reading_plus_1(k: Option<Reading>) -> u32
     ensures { result ≡ reading_plus1 k }
 {
     match k {
-        OptReading::NoReading => 0,
-        OptReading::SomeReading(x) => {
+        None => 0,
+        Some(x) => {
             if x.0 < TIME_LIMIT {
                 x.0 + 1
             } else {
@@ -52,72 +51,70 @@ fn marks_number(r: HeadRecord) -> u32
 {
     let v = r.vote;
     let choice = v.choice;
-    let candidate = is_number(choice);
-    mark_number(r.started, mark::START_SENT)
-        + mark_number(r.confirmed, mark::CONFIRMED)
-        + mark_number(r.vote.turn, mark::VOTE_TURN)
-        + mark_number(r.vote.closed, mark::VOTE_CLOSE)
-        + mark_number(r.adjust.turn, mark::ADJUST_TURN)
-        + mark_number(r.adjust.closed, mark::ADJUST_CLOSE)
-        + mark_number(candidate, mark::CANDIDATE)
+    let candidate = choice.is_some();
+    mark_number(r.started, Mark::StartSent.weight())
+        + mark_number(r.confirmed, Mark::Confirmed.weight())
+        + mark_number(r.vote.turn, Mark::VoteTurn.weight())
+        + mark_number(r.vote.closed, Mark::VoteClose.weight())
+        + mark_number(r.adjust.turn, Mark::AdjustTurn.weight())
+        + mark_number(r.adjust.closed, Mark::AdjustClose.weight())
+        + mark_number(candidate, Mark::Candidate.weight())
 }
 
-// The head's own numbers, and nothing kept by sender.
-fn bare_row(r: HeadRecord) -> Row
-    ensures { result ≡ row_of (bare r) }
+fn bare_phase(p: Phase) -> PhaseRow
+    ensures { result ≡ bare_phase p }
 {
-    let vote = r.vote;
-    let adjust = r.adjust;
-    let candidate = vote.choice;
-    let adjuster = adjust.choice;
-    let mut row = [0u32; ROW_LENGTH];
-    row[at::LAST] = r.last.0;
-    row[at::MARKS] = marks_number(r);
-    row[at::CANDIDATE] = number_plus_1(candidate);
-    row[at::VOTES_SENT] = vote.sent as u32;
-    row[at::ADJUSTER] = number_plus_1(adjuster);
-    row[at::ADJUSTS_SENT] = adjust.sent as u32;
-    row[at::ADJUSTMENT] = r.adjustment.0;
-    row[at::HEADS] = r.n as u32;
-    row[at::FAULTY] = r.f as u32;
-    row[at::OWN] = r.own as u32;
-    row[at::VOTE_EARLY] = mark_number(vote.early, 1);
-    row[at::ADJUST_EARLY] = mark_number(adjust.early, 1);
-    row
-}
-
-fn put_sender(row: &mut Row, p: usize, k: Sender)
-    requires { p < 16 }
-    ensures { row.new ≡ with_numbers row.old p k }
-{
-    let start = k.start;
-    let vote = k.vote;
-    let voted = k.voted;
-    let adjusted = k.adjusted;
-    let candidate = k.candidate;
-    let adjuster = k.adjuster;
-    row[at::START_READINGS + p] = reading_plus_1(start);
-    row[at::VOTE_READINGS + p] = reading_plus_1(vote);
-    row[at::VOTE_SERIALS + p] = number_plus_1(voted);
-    row[at::ADJUST_SERIALS + p] = number_plus_1(adjusted);
-    row[at::LATEST_VOTES + p] = number_plus_1(candidate);
-    row[at::LATEST_ADJUSTS + p] = number_plus_1(adjuster);
-}
-
-// What is kept by sender, each number at its index.
-fn put_senders(row: &mut Row, senders: [Sender; 16])
-    ensures { Completes row.old senders row.new }
-{
-    let mut i: usize = 0;
-    while i < 16 {
-        let k = senders[i];
-        put_sender(row, i, k);
-        i += 1;
+    PhaseRow {
+        choice: number_plus_1(p.choice),
+        sent: p.sent as u32,
+        early: mark_number(p.early, 1),
+        serials: [0; 16],
+        latest: [0; 16],
     }
 }
 
-// The row of a record.
-pub fn row_of(r: HeadRecord) -> Row
+// The head's own numbers, and nothing kept by sender.
+fn bare_row(r: HeadRecord) -> HeadRow
+    ensures { result ≡ row_of (bare r) }
+{
+    HeadRow {
+        last: r.last.0,
+        marks: Marks(marks_number(r)),
+        adjustment: r.adjustment.0,
+        heads: r.n as u32,
+        faulty: r.f as u32,
+        own: r.own as u32,
+        spare: [0; 4],
+        start_readings: [0; 16],
+        vote_readings: [0; 16],
+        votes: bare_phase(r.vote),
+        adjusts: bare_phase(r.adjust),
+    }
+}
+
+fn put_sender(row: &mut HeadRow, p: usize, k: Sender)
+    requires { p < 16 }
+    ensures { row.new ≡ with_numbers row.old p k }
+{
+    row.start_readings[p] = reading_plus_1(k.start);
+    row.vote_readings[p] = reading_plus_1(k.vote);
+    row.votes.serials[p] = number_plus_1(k.voted);
+    row.adjusts.serials[p] = number_plus_1(k.adjusted);
+    row.votes.latest[p] = number_plus_1(k.candidate);
+    row.adjusts.latest[p] = number_plus_1(k.adjuster);
+}
+
+// What is kept by sender, each number at its index.
+fn put_senders(row: &mut HeadRow, senders: [Sender; 16])
+    ensures { Completes row.old senders row.new }
+{
+    for i in 0..16 {
+        put_sender(row, i, senders[i]);
+    }
+}
+
+/// The row of a record.
+pub fn row_of(r: HeadRecord) -> HeadRow
     ensures { result ≡ row_of r }
 {
     let senders = r.senders;
@@ -133,26 +130,16 @@ fn byte(w: u32) -> u8
     (w % 256) as u8
 }
 
-fn reading_in(w: u32) -> OptReading
-    ensures { result ≡ reading_in w }
-{
-    if w == 0 {
-        OptReading::NoReading
-    } else {
-        OptReading::SomeReading(Reading(w - 1))
-    }
-}
-
-fn sender_in(row: &Row, p: usize) -> Sender
+fn sender_in(row: &HeadRow, p: usize) -> Sender
     requires { p < 16 }
     ensures { result ≡ cut_sender (sender_in row.now p) }
 {
-    let start = reading_in(row[at::START_READINGS + p]);
-    let vote = reading_in(row[at::VOTE_READINGS + p]);
-    let voted = number_in(row[at::VOTE_SERIALS + p]);
-    let adjusted = number_in(row[at::ADJUST_SERIALS + p]);
-    let candidate = number_in(row[at::LATEST_VOTES + p]);
-    let adjuster = number_in(row[at::LATEST_ADJUSTS + p]);
+    let start = reading_in(row.start_readings[p]);
+    let vote = reading_in(row.vote_readings[p]);
+    let voted = number_in(row.votes.serials[p]);
+    let adjusted = number_in(row.adjusts.serials[p]);
+    let candidate = number_in(row.votes.latest[p]);
+    let adjuster = number_in(row.adjusts.latest[p]);
     Sender {
         start,
         vote,
@@ -163,80 +150,57 @@ fn sender_in(row: &Row, p: usize) -> Sender
     }
 }
 
-fn senders_in(row: &Row) -> [Sender; 16]
+fn senders_in(row: &HeadRow) -> [Sender; 16]
     ensures { result ≡ map cut_sender (table (sender_in row.now) 0 16) }
 {
     let first = sender_in(row, 0);
     let mut l = [first; 16];
-    let mut i: usize = 1;
-    while i < 16 {
-        let k = sender_in(row, i);
-        l[i] = k;
-        i += 1;
+    for i in 1..16 {
+        l[i] = sender_in(row, i);
     }
     l
 }
 
-// A phase, by the weights of its marks.
-fn phase_in(marks: u32, turn: u32, closed: u32, early: u32, choice: u32, sent: u32) -> Phase
-    requires { (0 < turn) × (0 < closed) }
-    ensures { result ≡ cut_phase (phase_with marks turn closed early choice sent) }
+// A phase, by its marks.
+fn phase_in(marks: Marks, phase: &PhaseRow, turn: Mark, closed: Mark) -> Phase
+    ensures { result ≡ cut_phase (phase_in marks phase.now (weight_of turn) (weight_of closed)) }
 {
-    let choice = number_in(choice);
     Phase {
-        turn: has_mark(marks, turn),
-        closed: has_mark(marks, closed),
-        early: early == 1,
-        choice,
-        sent: byte(sent),
+        turn: marks.has(turn),
+        closed: marks.has(closed),
+        early: phase.early == 1,
+        choice: number_in(phase.choice),
+        sent: byte(phase.sent),
     }
 }
 
-// The record that a row in its ranges holds.
-pub fn record_in(row: &Row) -> HeadRecord
+/// The record that a row in its ranges holds.
+pub fn record_in(row: &HeadRow) -> HeadRecord
     ensures { Holds row.now result }
 {
-    let marks = row[at::MARKS];
-    let vote = phase_in(
-        marks,
-        mark::VOTE_TURN,
-        mark::VOTE_CLOSE,
-        row[at::VOTE_EARLY],
-        row[at::CANDIDATE],
-        row[at::VOTES_SENT],
-    );
-    let adjust = phase_in(
-        marks,
-        mark::ADJUST_TURN,
-        mark::ADJUST_CLOSE,
-        row[at::ADJUST_EARLY],
-        row[at::ADJUSTER],
-        row[at::ADJUSTS_SENT],
-    );
-    let senders = senders_in(row);
     HeadRecord {
-        n: byte(row[at::HEADS]),
-        f: byte(row[at::FAULTY]),
-        own: byte(row[at::OWN]),
-        last: Reading(row[at::LAST]),
-        started: has_mark(marks, mark::START_SENT),
-        confirmed: has_mark(marks, mark::CONFIRMED),
-        vote,
-        adjust,
-        adjustment: Reading(row[at::ADJUSTMENT]),
-        senders,
+        n: byte(row.heads),
+        f: byte(row.faulty),
+        own: byte(row.own),
+        last: Reading(row.last),
+        started: row.marks.has(Mark::StartSent),
+        confirmed: row.marks.has(Mark::Confirmed),
+        vote: phase_in(row.marks, &row.votes, Mark::VoteTurn, Mark::VoteClose),
+        adjust: phase_in(row.marks, &row.adjusts, Mark::AdjustTurn, Mark::AdjustClose),
+        adjustment: Reading(row.adjustment),
+        senders: senders_in(row),
     }
 }
 
-// The frame that the numbers stand for.
-pub fn frame_in(s: Sent) -> Frame
+/// The frame that the numbers stand for.
+pub fn frame_in(s: Sent) -> Option<Frame>
     ensures { StandsFor s result }
 {
     let kind = s.kind;
     match kind {
-        2 => Frame::Start,
-        5 => Frame::Vote(byte(s.serial), byte(s.choice), reading_in(s.carried)),
-        8 => Frame::Adjust(byte(s.serial), byte(s.choice), Reading(s.carried)),
-        _ => Frame::NoFrame,
+        2 => Some(Frame::Start),
+        5 => Some(Frame::Vote(byte(s.serial), byte(s.choice), reading_in(s.carried))),
+        8 => Some(Frame::Adjust(byte(s.serial), byte(s.choice), Reading(s.carried))),
+        _ => None,
     }
 }

@@ -1,29 +1,29 @@
-// How a round ended for a head, read off its row.
+//! How a round ended for a head, read off its row.
 #![tactic(auto)]
 
 ghost use Rattle.head_result.specs.Result.{IsResult};
 
-use head_open::has_mark;
-use protocol::{Row, at, mark};
+use head_row::head_index;
+use protocol::{HeadRow, Mark};
 
-// Outcome, candidate, adjuster, adjustment and start reading, the last four 0 unless the outcome is 2.
-pub fn result_numbers(row: &Row) -> [u32; 5]
+/// Outcome, candidate, adjuster, adjustment and start reading, the last four 0 unless the outcome is 2.
+pub fn result_numbers(row: &HeadRow) -> [u32; 5]
     ensures { IsResult row.now result }
 {
-    if has_mark(row[at::MARKS], mark::ADJUST_CLOSE) {
-        let c = row[at::CANDIDATE];
-        let a = row[at::ADJUSTER];
-        if c == 0 {
-            return [1, 0, 0, 0, 0];
-        }
-        if a == 0 {
-            return [1, 0, 0, 0, 0];
-        }
-        let start = row[at::START_READINGS + ((c - 1) % 16) as usize];
-        if start == 0 {
-            return [1, 0, 0, 0, 0];
-        }
-        return [2, c - 1, a - 1, row[at::ADJUSTMENT], start - 1];
+    if !row.marks.has(Mark::AdjustClose) {
+        return [0, 0, 0, 0, 0];
     }
-    [0, 0, 0, 0, 0]
+    let c = row.votes.choice;
+    let a = row.adjusts.choice;
+    if c == 0 {
+        return [1, 0, 0, 0, 0];
+    }
+    if a == 0 {
+        return [1, 0, 0, 0, 0];
+    }
+    let start = row.start_readings[head_index(c - 1)];
+    if start == 0 {
+        return [1, 0, 0, 0, 0];
+    }
+    [2, c - 1, a - 1, row.adjustment, start - 1]
 }

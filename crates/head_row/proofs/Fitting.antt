@@ -1,5 +1,6 @@
 -- A record in its ranges fits a step, and so does what the step makes of it on its way.
 -- Main results: `fits`, `fits_heads`; `last_fits`, `vote_phase_fits`, `adjust_phase_fits`, `sender_fits_lem`.
+use Rattle.std.specs.Prelude.{Option, Some, None}
 use mathlib.Core.Path.{◌≡◌, sym, ◌∙◌, subst}
 use Prim.Native.Nat.{ℕ, ◌^◌, ◌≤◌, ◌<◌}
 use native.Mathlib.Omega.{arith}
@@ -7,8 +8,6 @@ use lib.Dec.{ltb, lit<}
 use lib.ListN.{length, length-set, get_or-eq_default}
 use borrow.Author.Tests.{ltb-true, ltb-false}
 use Rattle.protocol.specs.declared.Reading.{Reading}
-use Rattle.protocol.specs.declared.OptNumber.{OptNumber}
-use Rattle.protocol.specs.declared.OptNumber.TheVariants.{NoNumber, SomeNumber}
 use Rattle.protocol.specs.declared.Sender.{Sender}
 use Rattle.protocol.specs.declared.Phase.{Phase}
 use Rattle.protocol.specs.declared.HeadRecord.{HeadRecord}
@@ -21,9 +20,9 @@ use Rattle.head_row.specs.Promises.{Fits, HasHeads}
 
 -- IN RANGE, SO IT FITS
 
-sent_below : (n : ℕ) (m : OptNumber) (sent : ℕ) → n ≤ 16 → SentInRange n m sent → sent < 2 ^ 16
-sent_below n NoNumber sent b h = omega arith
-sent_below n (SomeNumber v) sent b h = omega arith
+sent_below : (n : ℕ) (m : Option ℕ) (sent : ℕ) → n ≤ 16 → SentInRange n m sent → sent < 2 ^ 16
+sent_below n None sent b h = omega arith
+sent_below n (Some v) sent b h = omega arith
 
 module _ {r : HeadRecord} (h : InRange r) (long : length r.senders ≡ 16) where
   nothing_kept : (p : ℕ) → r.n ≤ p → kept_of r p ≡ no_sender

@@ -1,10 +1,13 @@
 -- What a function on a head's row promises: it reads off the row, or does to it, what a definition says of the record.
-use Rattle.std.specs.Prelude.{◌≡◌, List, ℕ, ◌^◌, ◌≤◌, ◌<◌, length}
+use Rattle.std.specs.Prelude.{◌≡◌, ℕ, ◌^◌, ◌≤◌, ◌<◌, length}
 use Rattle.protocol.specs.declared.HeadRecord.{HeadRecord}
+use Rattle.protocol.specs.declared.HeadRow.{HeadRow}
 use Rattle.protocol.specs.declared.Stepped.{Stepped}
-use Rattle.protocol.specs.declared.Sent.{Sent}
-use Rattle.protocol.specs.Record.{Kind, votes, adjusts, phase_of, reading_or0, vote_of}
-use Rattle.protocol.specs.Row.{row_of, sent_of}
+use Rattle.head_row.specs.declared.Sent.{Sent}
+use Rattle.protocol.specs.declared.Kind.{Kind}
+use Rattle.protocol.specs.Record.{phase_of, reading_or0, vote_of}
+use Rattle.protocol.specs.Row.{row_of}
+use Rattle.head_row.specs.Sent.{sent_of}
 
 -- as much of a record's ranges as a step needs; an action's parts keep it
 pub record Fits (r : HeadRecord) : Type 0 where
@@ -17,15 +20,15 @@ pub record Fits (r : HeadRecord) : Type 0 where
   pub readings : (p : ℕ) → reading_or0 (vote_of r p) < 2 ^ 28
 
 -- x is what f says of the record that the row is of
-abbrev pub Reads : {A : Type 0} → (HeadRecord → A) → List ℕ → A → Type 0
+abbrev pub Reads : {A : Type 0} → (HeadRecord → A) → HeadRow → A → Type 0
 Reads f row x = (r : HeadRecord) → row ≡ row_of r → Fits r → x ≡ f r
 
 -- the row and the frame are those of an act's result
-abbrev pub Gives : Stepped → List ℕ → Sent → Type 0
+abbrev pub Gives : Stepped → HeadRow → Sent → Type 0
 Gives t row x = (row ≡ row_of t.after) × (x ≡ sent_of t.frame)
 
 -- the row becomes that of the record after the act, and x is the frame that the act sends
-abbrev pub Acts : (HeadRecord → Stepped) → List ℕ → List ℕ → Sent → Type 0
+abbrev pub Acts : (HeadRecord → Stepped) → HeadRow → HeadRow → Sent → Type 0
 Acts act before after x = (r : HeadRecord) → before ≡ row_of r → Fits r → Gives (act r) after x
 
 -- as much of a record's ranges as the test at a step's end needs; what comes before the test keeps it
@@ -35,14 +38,5 @@ pub record HasHeads (r : HeadRecord) : Type 0 where
   pub senders : length r.senders ≡ 16
 
 -- the row becomes that of the record which f makes
-abbrev pub Becomes : (HeadRecord → HeadRecord) → List ℕ → List ℕ → Type 0
+abbrev pub Becomes : (HeadRecord → HeadRecord) → HeadRow → HeadRow → Type 0
 Becomes f before after = (r : HeadRecord) → before ≡ row_of r → HasHeads r → after ≡ row_of (f r)
-
--- where a row has, for each phase, the senders' latest frames and the mark of an early close
-abbrev pub latest_at : Kind → ℕ
-latest_at votes = 80
-latest_at adjusts = 96
-
-abbrev pub early_at : Kind → ℕ
-early_at votes = 10
-early_at adjusts = 11

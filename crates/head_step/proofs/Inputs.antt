@@ -1,22 +1,22 @@
 -- The action that an input's numbers ask for, taken with its reading as the last reading.
 -- Main results: `action_is`, `only_look`, `input_acts`, `plain_acts`, `look_acts`; `carried_written`, `carried_below`.
-use Rattle.std.proofs.Common.{◌≡◌, ℕ, ◌+◌, ◌%◌, ◌^◌, ◌<◌, ◌≤◌, cond, eqb, ◌≢◌, List, get_or, set, sym, refl, ap, ◌∙◌, subst, arith, eqb-true}
+use Rattle.protocol.specs.declared.Reading.{Reading}
+use Rattle.std.proofs.Common.{◌≡◌, ℕ, ◌+◌, ◌%◌, ◌^◌, ◌<◌, ◌≤◌, cond, eqb, ◌≢◌, List, get_or, set, sym, refl, ap, ◌∙◌, subst, arith, eqb-true, Option, Some, None}
 use lib.ListN.{get_or-eq_default}
 use borrow.Author.Tests.{eqb-false}
-use Rattle.protocol.specs.declared.OptReading.{OptReading}
-use Rattle.protocol.specs.declared.OptReading.TheVariants.{NoReading, SomeReading}
 use Rattle.protocol.specs.declared.HeadRecord.{HeadRecord}
-use Rattle.protocol.specs.declared.Sent.{Sent}
-use Rattle.protocol.specs.declared.Frame.TheVariants.{NoFrame}
+use Rattle.protocol.specs.declared.HeadRow.{HeadRow}
+use Rattle.head_row.specs.declared.Sent.{Sent}
+use Rattle.protocol.specs.Types.{NoFrame}
 use Rattle.protocol.specs.declared.Input.{Input}
 use Rattle.protocol.specs.declared.Action.{Action}
 use Rattle.protocol.specs.declared.Action.TheVariants.{Look}
-use Rattle.protocol.specs.Record.{reading_or0, reading}
+use Rattle.protocol.specs.Record.{reading_or0, reading, marks_number}
 use Rattle.protocol.specs.Step.{with_last, effect, is_tested, act, taken_as, actions_of, action_of}
-use Rattle.protocol.specs.Row.{reading_plus1, sent_of}
+use Rattle.protocol.specs.Row.{reading_plus1}
+use Rattle.head_row.specs.Sent.{sent_of}
 use Rattle.protocol.proofs.Tests.{cases, cond_elim}
 use Rattle.head_row.specs.Promises.{Gives, Acts}
-use Rattle.head_row.proofs.Rows.{last_written}
 use Rattle.head_row.proofs.Fitting.{last_fits}
 use Rattle.head_step.specs.Sized.{InputSized}
 use Rattle.head_step.proofs.Tested.{untested_gives}
@@ -24,15 +24,15 @@ use Rattle.head_step.proofs.Effects.{reading_written}
 
 -- A VOTE'S READING, as the input has it and as the row has it
 
-abbrev pub carried_by : Input → OptReading
-carried_by i = cond i.none NoReading (SomeReading (reading i.carried))
+abbrev pub carried_by : Input → Option Reading
+carried_by i = cond i.none None (Some (reading i.carried))
 
 module _ (i : Input) (sized : InputSized i) where
   pub carried_written : cond i.none 0 ((i.carried + 1) % 2 ^ 32) ≡ reading_plus1 (carried_by i)
   carried_written = cases i.none (λ t. rw t refl) (λ t. rw t (reading_written (reading i.carried) sized.carried))
 
   pub carried_below : reading_or0 (carried_by i) < 2 ^ 28
-  carried_below = cond_elim (λ (y : OptReading). reading_or0 y < 2 ^ 28) i.none (λ _. omega arith) (λ _. sized.carried)
+  carried_below = cond_elim (λ (y : Option Reading). reading_or0 y < 2 ^ 28) i.none (λ _. omega arith) (λ _. sized.carried)
 
 -- THE ACTION
 
@@ -53,23 +53,23 @@ module _ (i : Input) where
       (five_further 5 i.action (five_further 0 i.action (omega arith) (eqb-false _ _ n0) n1 n2 n3 n4) n5 n6 n7 n8 n9))
 
   -- what the action of these numbers does once its reading is the last one, which changes nothing in whether it is spent
-  pub input_acts : (sized : InputSized i) (row row' : List ℕ) (x : Sent) (a : Action) → action_of i ≡ a
-      → Acts (λ (r : HeadRecord). act r (taken_as r a)) (set row 0 i.reading) row' x
+  pub input_acts : (sized : InputSized i) (row row' : HeadRow) (x : Sent) (a : Action) → action_of i ≡ a
+      → Acts (λ (r : HeadRecord). act r (taken_as r a)) (record row { last = i.reading }) row' x
       → Acts (λ (r : HeadRecord). act (with_last r (reading i.reading)) (taken_as r (action_of i))) row row' x
-  unfolding taken_as
+  unfolding taken_as marks_number
   input_acts sized row row' x a e acts r is fit =
       subst (λ (b : Action). Gives (act (with_last r (reading i.reading)) (taken_as r b)) row' x) (sym e)
-      (acts (with_last r (reading i.reading)) (ap (λ (l : List ℕ). set l 0 i.reading) is ∙ last_written r (reading i.reading))
+      (acts (with_last r (reading i.reading)) (ap (λ (l : HeadRow). record l { last = i.reading }) is)
       (last_fits fit (reading i.reading) sized.reading))
 
   -- where the action is never spent
-  pub plain_acts : (sized : InputSized i) (row row' : List ℕ) (x : Sent) (a : Action) → action_of i ≡ a → ((r : HeadRecord) → taken_as r a ≡ a)
-      → Acts (λ (r : HeadRecord). act r a) (set row 0 i.reading) row' x
+  pub plain_acts : (sized : InputSized i) (row row' : HeadRow) (x : Sent) (a : Action) → action_of i ≡ a → ((r : HeadRecord) → taken_as r a ≡ a)
+      → Acts (λ (r : HeadRecord). act r a) (record row { last = i.reading }) row' x
       → Acts (λ (r : HeadRecord). act (with_last r (reading i.reading)) (taken_as r (action_of i))) row row' x
   plain_acts sized row row' x a e plain acts =
       input_acts sized row row' x a e (λ r is fit. subst (λ (b : Action). Gives (act r b) row' x) (sym (plain r)) (acts r is fit))
 
-  pub look_acts : (sized : InputSized i) (row : List ℕ) (x : Sent) → action_of i ≡ Look → x ≡ sent_of NoFrame
-      → Acts (λ (r : HeadRecord). act (with_last r (reading i.reading)) (taken_as r (action_of i))) row (set row 0 i.reading) x
+  pub look_acts : (sized : InputSized i) (row : HeadRow) (x : Sent) → action_of i ≡ Look → x ≡ sent_of NoFrame
+      → Acts (λ (r : HeadRecord). act (with_last r (reading i.reading)) (taken_as r (action_of i))) row (record row { last = i.reading }) x
   unfolding effect is_tested taken_as
   look_acts sized row x e none = plain_acts sized row _ x Look e (λ r. refl) (λ r is fit. untested_gives r Look (is, none) refl)

@@ -1,4 +1,4 @@
-// One head's step, in place on its row: what an accepted action does, for a board and for the run of a sheet.
+//! One head's step, in place on its row: what an accepted action does, for a board and for the run of a sheet.
 #![tactic(auto)]
 
 mod actions;
@@ -11,29 +11,26 @@ ghost use Rattle.head_row.specs.Promises.{Acts};
 ghost use Rattle.head_step.specs.Sized.{InputSized};
 
 use actions::{
-    adjust_close, adjust_delivered, adjust_turn, start_confirmed, start_delivered, start_sent,
-    vote_close, vote_delivered, vote_turn,
+    adjust_delivered, adjust_turn, close, start_confirmed, start_delivered, start_sent,
+    vote_delivered, vote_turn,
 };
-use head_row::no_frame;
-use protocol::{Input, Row, Sent, at};
+use head_row::{Sent, no_frame};
+use protocol::{HeadRow, Input, Kind};
 
-// A vote's reading as a row has it.
+// A vote's reading as a row has it. It wraps, where `head_record`'s of a record cuts off at 28 bits: two definitions.
 fn reading_plus_1(none: bool, carried: u32) -> u32
     ensures { result ≡ (if none then 0 else (carried + 1) % 2 ^ 32) }
 {
-    if none {
-        0
-    } else {
-        std::num::wrapping_add_u32(carried, 1)
-    }
+    if none { 0 } else { carried.wrapping_add(1) }
 }
 
-// What an accepted action does: "Every accepted action makes its reading the last reading".
-pub fn act(row: &mut Row, i: Input) -> Sent
+/// What an accepted action does: "Every accepted action makes its reading the last reading". The match is on the action's
+/// number, as `Input` has it; the frame goes as numbers, and `Sent` says why.
+pub fn act(row: &mut HeadRow, i: Input) -> Sent
     ensures { InputSized i
         → Acts (λ (r : HeadRecord). act (with_last r (reading i.reading)) (taken_as r (action_of i))) row.old row.new result }
 {
-    row[at::LAST] = i.reading;
+    row.last = i.reading;
     let a = i.action;
     match a {
         1 => start_sent(row),
@@ -47,10 +44,10 @@ pub fn act(row: &mut Row, i: Input) -> Sent
             i.choice,
             reading_plus_1(i.none, i.carried),
         ),
-        6 => vote_close(row),
+        6 => close(row, Kind::Votes),
         7 => adjust_turn(row),
         8 => adjust_delivered(row, i.sender, i.serial, i.choice, i.carried),
-        9 => adjust_close(row),
+        9 => close(row, Kind::Adjusts),
         _ => no_frame(),
     }
 }

@@ -1,3 +1,3 @@
 -- What one more entry changes in what the judge keeps.
 pub mod Steady
-pub mod Actions
+pub mod Changes

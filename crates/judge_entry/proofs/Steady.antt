@@ -1,5 +1,5 @@
 -- Premise 2 of an entry with all of its head's entries before it, by the least gain and the least loss.
--- Main results: `differs_next`, `steady_next`.
+-- Main results: `drifts_next`, `steady_next`.
 use mathlib.Core.Path.{◌≡◌, refl, sym, ◌∙◌, ap, ap₂}
 use mathlib.Core.Bool.{Bool, true, false, cond, not, ◌&&◌}
 use mathlib.Core.List.{List, [], ◌∷◌}
@@ -11,9 +11,10 @@ use lib.ListN.{get_or, set}
 use lib.IntN.{ℤ, pos, negsuc}
 use lib.Signed.{lt_z, le_z}
 use borrow.Author.Tests.{lt-ltb, le-ltb, le-leb, lt-leb, leb-true, leb-false, eqb-false, eq-eqb, ne_eqb}
+use Rattle.protocol.specs.declared.HeadRow.{HeadRow}
 use Rattle.protocol.specs.declared.Setting.{Setting}
 use Rattle.protocol.specs.declared.Entry.{Entry}
-use Rattle.protocol.specs.declared.Verdict.TheVariants.{Accepted}
+use Rattle.protocol.specs.Types.{Accepted}
 use Rattle.protocol.specs.Base.{◌⇒◌, all, distance, table}
 use Rattle.protocol.specs.Words.{is_correct, setting_at, entry_at}
 use Rattle.protocol.specs.Run.{Event, History, last_time}
@@ -25,9 +26,11 @@ use Rattle.protocol.proofs.Valid.{Valid, start, more}
 use Rattle.sheet_state.specs.Arrays.{answer_at, event_at, Stands}
 use Rattle.sheet_state.proofs.Standing.{entry_sized, valid_history, next_taken}
 use Rattle.data_sets.proofs.Sets.{same_test}
-use Rattle.judge_premise_2.specs.Drift.{gain_of, loss_of, lesser_of, stays_steady}
+use Rattle.std.specs.Int.{int_min}
+use Rattle.judge_premise_2.specs.declared.Drift.{Drift}
+use Rattle.judge_premise_2.specs.Drift.{gain_of, loss_of, drift_of, least_of, stays_steady}
 use Rattle.judge_premise_3.proofs.Accepted.{entry_time}
-use Rattle.judge_entry.specs.State.{least_of, gains, losses, DriftState}
+use Rattle.judge_entry.specs.State.{least_drift, drifts_of}
 
 -- SIGNED NUMBERS
 
@@ -71,8 +74,8 @@ le_total (negsuc a) (pos b) e = absurd_bool refl e
 le_total (negsuc a) (negsuc b) e = let p = leb-false b a e in le-leb a b (omega arith)
 
 -- at most the lesser of two is at most both
-le_lesser : (x y z : ℤ) → le_z x (lesser_of y z) ≡ (le_z x y && le_z x z)
-le_lesser x y z = rw (less_test y z) (go (le_z z y) refl)
+le_least : (x y z : ℤ) → le_z x (int_min y z) ≡ (le_z x y && le_z x z)
+le_least x y z = rw (less_test z y) (go (le_z y z) refl)
   where
     first : (a b : Bool) → (a ≡ true → b ≡ true) → a ≡ (a && b)
     first true b f = sym (f refl)
@@ -83,9 +86,9 @@ le_lesser x y z = rw (less_test y z) (go (le_z z y) refl)
     second false true f = sym (f refl)
     second false false f = refl
 
-    go : (t : Bool) → le_z z y ≡ t → le_z x (cond (not t) y z) ≡ (le_z x y && le_z x z)
-    go true e = second (le_z x y) (le_z x z) (λ h. le_both x z y h e)
-    go false e = first (le_z x y) (le_z x z) (λ h. le_both x y z h (le_total z y e))
+    go : (t : Bool) → le_z y z ≡ t → le_z x (cond (not t) z y) ≡ (le_z x y && le_z x z)
+    go true e = first (le_z x y) (le_z x z) (λ h. le_both x y z h e)
+    go false e = second (le_z x y) (le_z x z) (λ h. le_both x z y h (le_total y z e))
 
 -- TWO ENTRIES
 
@@ -138,8 +141,8 @@ module _ (drift : ℕ) (e : Entry) (q : ℕ) (ft : e.time.0 < 2 ^ 28) (fr : e.re
   down_to = le_z (loss_of drift e 1000000)
 
   steady_with_all : (s : History) → Until e.time.0 s
-      → with_all s ≡ (up_to (least_of (λ x. gain_of drift x 0) s q) && down_to (least_of (λ x. loss_of drift x 0) s q))
-  unfolding least_of
+      → with_all s ≡ (up_to (least_drift drift s q).gain && down_to (least_drift drift s q).loss)
+  unfolding least_drift
   steady_with_all [] u =
       sym (and_both
       (le_difference (gain_is drift e 1000000) (difference_pos (2 ^ 62)) ∙ le-leb _ (2 ^ 62 + ((1000000 + drift) * e.time.0 + 1000000)) (omega arith))
@@ -149,10 +152,10 @@ module _ (drift : ℕ) (e : Entry) (q : ℕ) (ft : e.time.0 < 2 ^ 28) (fr : e.re
       let ih = steady_with_all s u.1 in cases (eqb d.entry.head q) (λ t. rw t (at_head ih)) (λ t. rw t ih)
     where
       x : ℤ
-      x = least_of (λ x. gain_of drift x 0) s q
+      x = (least_drift drift s q).gain
 
       y : ℤ
-      y = least_of (λ x. loss_of drift x 0) s q
+      y = (least_drift drift s q).loss
 
       four : (a b c f : Bool) → ((a && b) && (c && f)) ≡ ((c && a) && (f && b))
       four true true true true = refl
@@ -170,60 +173,54 @@ module _ (drift : ℕ) (e : Entry) (q : ℕ) (ft : e.time.0 < 2 ^ 28) (fr : e.re
       loss : ℤ
       loss = loss_of drift d.entry 0
 
-      at_head : with_all s ≡ (up_to x && down_to y) → (is_steady drift d.entry e && with_all s) ≡ (up_to (lesser_of x gain) && down_to (lesser_of y loss))
+      at_head : with_all s ≡ (up_to x && down_to y) → (is_steady drift d.entry e && with_all s) ≡ (up_to (int_min x gain) && down_to (int_min y loss))
       at_head ih =
           ap₂ ◌&&◌ (steady_pair drift d.entry e u.0) ih ∙ four (up_to gain) (down_to loss) (up_to x) (down_to y)
-          ∙ sym (ap₂ ◌&&◌ (le_lesser (gain_of drift e 1000000) x gain) (le_lesser (loss_of drift e 1000000) y loss))
+          ∙ sym (ap₂ ◌&&◌ (le_least (gain_of drift e 1000000) x gain) (le_least (loss_of drift e 1000000) y loss))
 
 -- ONE MORE EVENT
+
+-- what an array of differences has beyond its end
+abbrev beyond : Drift
+beyond = record { gain = pos 0; loss = pos 0 }
 
 module _ (e : Event) (s : History) (small : e.entry.head < 16) where
   abbrev index : ℕ
   index = e.entry.head % 16
 
-  least_next : (x : Entry → ℤ)
-      → set (table (least_of x s) 0 16) index (lesser_of (get_or (table (least_of x s) 0 16) index (pos 0)) (x e.entry)) ≡ table (least_of x (e ∷ s)) 0 16
-  unfolding least_of
-  least_next x =
-      set_table (least_of x s) (least_of x (e ∷ s)) 16 index _ (pos 0) (omega arith)
+  least_next : (drift : ℕ)
+      → set (table (least_drift drift s) 0 16) index (least_of (get_or (table (least_drift drift s) 0 16) index beyond) (drift_of drift e.entry 0)) ≡ table (least_drift drift (e ∷ s)) 0 16
+  unfolding least_drift
+  least_next drift =
+      set_table (least_drift drift s) (least_drift drift (e ∷ s)) 16 index _ beyond (omega arith)
       (at index (eq-eqb e.entry.head index (omega arith))
-      ∙ ap (λ (z : ℤ). lesser_of z (x e.entry)) (sym (table_at (least_of x s) 16 index (pos 0) (omega arith))))
+      ∙ ap (λ (d : Drift). least_of d (drift_of drift e.entry 0)) (sym (table_at (least_drift drift s) 16 index beyond (omega arith))))
       (λ j l d. other j (ne_eqb e.entry.head j (λ z. eqb-false j index d (omega arith))))
     where
-      at : (q : ℕ) → eqb e.entry.head q ≡ true → least_of x (e ∷ s) q ≡ lesser_of (least_of x s q) (x e.entry)
+      at : (q : ℕ) → eqb e.entry.head q ≡ true → least_drift drift (e ∷ s) q ≡ least_of (least_drift drift s q) (drift_of drift e.entry 0)
       at q t = rw t refl
 
-      other : (q : ℕ) → eqb e.entry.head q ≡ false → least_of x (e ∷ s) q ≡ least_of x s q
+      other : (q : ℕ) → eqb e.entry.head q ≡ false → least_drift drift (e ∷ s) q ≡ least_drift drift s q
       other q t = rw t refl
 
   premise_2_next : (g : Setting) → e.entry.time.0 < 2 ^ 28 → e.entry.reading.0 < 2 ^ 28 → Until e.entry.time.0 s
-      → (stays_steady (is_correct g e.entry.head) g.drift e.entry (get_or (gains g s) index (pos 0)) (get_or (losses g s) index (pos 0)) && premise2 g s)
-      ≡ premise2 g (e ∷ s)
-  unfolding premise2 each
+      → (stays_steady (is_correct g e.entry.head) g.drift e.entry (get_or (drifts_of g s) index beyond) && premise2 g s) ≡ premise2 g (e ∷ s)
+  unfolding premise2 each drifts_of
   premise_2_next g ft fr u =
-      ap₂ (λ (a b : ℤ). stays_steady (is_correct g e.entry.head) g.drift e.entry a b && premise2 g s)
-      (held (λ x. gain_of g.drift x 0)) (held (λ x. loss_of g.drift x 0))
+      ap (λ (d : Drift). stays_steady (is_correct g e.entry.head) g.drift e.entry d && premise2 g s) held
       ∙ ap (λ (b : Bool). (is_correct g e.entry.head ⇒ b) && premise2 g s) (sym (steady_with_all g.drift e.entry e.entry.head ft fr s u))
     where
-      held : (x : Entry → ℤ) → get_or (table (least_of x s) 0 16) index (pos 0) ≡ least_of x s e.entry.head
-      held x = table_at (least_of x s) 16 index (pos 0) (omega arith) ∙ ap (least_of x s) (omega arith)
+      held : get_or (drifts_of g s) index beyond ≡ least_drift g.drift s e.entry.head
+      held = table_at (least_drift g.drift s) 16 index beyond (omega arith) ∙ ap (least_drift g.drift s) (omega arith)
 
 -- an accepted entry e of a sheet with setting g; h is its head's index
-module _ {ws : List ℕ} {i : ℕ} {s : History} {heads : List (List ℕ)} (now : Stands ws i s heads) (accepted : (answer_at ws i s).verdict ≡ Accepted)
-    {g : Setting} {e : Entry} (g-is : g ≡ setting_at ws) (e-is : e ≡ entry_at ws i) {gain loss : List ℤ} (kept : DriftState g s gain loss)
-    {h : ℕ} (at : h ≡ e.head % 16) where
-  pub differs_next : {x y : ℤ} → x ≡ lesser_of (get_or gain h (pos 0)) (gain_of g.drift e 0) → y ≡ lesser_of (get_or loss h (pos 0)) (loss_of g.drift e 0)
-      → DriftState g (event_at ws i s ∷ s) (set gain h x) (set loss h y)
-  differs_next is_x is_y =
-      let next = least_next (event_at ws i s) s (entry_sized ws i).0 in
-      record {
-        gains_are = rw (is_x, at, kept.gains_are, e-is) (next (λ d. gain_of g.drift d 0));
-        losses_are = rw (is_y, at, kept.losses_are, e-is) (next (λ d. loss_of g.drift d 0));
-      }
+module _ {ws : List ℕ} {i : ℕ} {s : History} {heads : List HeadRow} (now : Stands ws i s heads) (accepted : (answer_at ws i s).verdict ≡ Accepted)
+    (g : Setting) {e : Entry} (e-is : e ≡ entry_at ws i) {drifts : List Drift} (are : drifts ≡ drifts_of g s) {h : ℕ} (at : h ≡ e.head % 16) where
+  pub drifts_next : set drifts h (least_of (get_or drifts h beyond) (drift_of g.drift e 0)) ≡ drifts_of g (event_at ws i s ∷ s)
+  unfolding drifts_of
+  drifts_next = rw (are, at, e-is) (least_next (event_at ws i s) s (entry_sized ws i).0 g.drift)
 
-  pub steady_next : {a b : Bool} {x y : ℤ} → a ≡ is_correct g e.head → x ≡ get_or gain h (pos 0) → y ≡ get_or loss h (pos 0)
-      → b ≡ stays_steady a g.drift e x y → (b && premise2 g s) ≡ premise2 g (event_at ws i s ∷ s)
-  steady_next correct is_x is_y is_b =
+  pub steady_next : (g ≡ setting_at ws) → (stays_steady (is_correct g e.head) g.drift e (get_or drifts h beyond) && premise2 g s) ≡ premise2 g (event_at ws i s ∷ s)
+  steady_next g-is =
       let t = next_taken now accepted in
-      rw (is_b, correct, is_x, is_y, at, kept.gains_are, kept.losses_are, e-is)
-      (premise_2_next (event_at ws i s) s (entry_sized ws i).0 g (entry_time ws i) t.reading_below (until (valid_history now) _ t.time_rises))
+      rw (are, at, e-is) (premise_2_next (event_at ws i s) s (entry_sized ws i).0 g (entry_time ws i) t.reading_below (until (valid_history now) _ t.time_rises))

@@ -1,56 +1,98 @@
-// What the premises say at an accepted entry, on the heads' rows before it.
+//! What the judge keeps from entry to entry, and what the premises say at an accepted entry, on the heads' rows before it.
 #![tactic(auto)]
 
-ghost use Rattle.std.specs.Prelude.{◌≡◌, ◌&&◌, List, ◌∷◌, ℕ, ◌<◌, set};
-ghost use Rattle.protocol.specs.declared.Verdict.TheVariants.{Accepted};
+ghost use Rattle.std.specs.Prelude.{◌≡◌, List, [], ◌∷◌, ℕ};
+ghost use Rattle.protocol.specs.declared.HeadRow.{HeadRow};
+ghost use Rattle.protocol.specs.Types.{Accepted};
 ghost use Rattle.protocol.specs.Words.{setting_at, entry_at};
 ghost use Rattle.protocol.specs.Run.{History};
 ghost use Rattle.protocol.specs.Premises.{premise2};
 ghost use Rattle.sheet_state.specs.Arrays.{answer_at, event_at, Stands};
-ghost use Rattle.judge_entry.specs.State.{JudgeState, DriftState};
+ghost use Rattle.judge_entry.specs.State.{drifts_of, judge_of};
 
 use data_words::is_correct;
-use judge_premise_2::{gain, lesser, loss, stays_steady};
-use judge_premise_3::{start_confirmed_breaks, start_delivered_breaks};
-use judge_premises_5_to_8::{close_breaks, frame_breaks};
-use protocol::{Entry, Row, Setting};
+use judge_premise_2::Drift;
+use judge_premise_3::StartTimes;
+use judge_premises_5_to_8::{Findings, Receivers};
+use protocol::{Entry, HeadRow, Kind, Setting};
 use sheet_state::head_index;
 
-// Whether an entry keeps premise 2 with those before it.
-pub fn keeps_premise_2(g: Setting, e: Entry, gains: &mut [i64; 16], losses: &mut [i64; 16]) -> bool
-    ensures { (ws : List ℕ) (i : ℕ) (s : History) (heads : List (List ℕ)) → Stands ws i s heads → g ≡ setting_at ws → e ≡ entry_at ws i → (answer_at ws i s).verdict ≡ Accepted
-        → DriftState g s gains.old losses.old
-        → DriftState g (event_at ws i s ∷ s) gains.new losses.new × ((result && premise2 g s) ≡ premise2 g (event_at ws i s ∷ s)) }
-{
-    let h = head_index(e.head);
-    let ahead = gains[h];
-    let behind = losses[h];
-    gains[h] = lesser(ahead, gain(g.drift, e, 0));
-    losses[h] = lesser(behind, loss(g.drift, e, 0));
-    stays_steady(is_correct(g, e.head), g.drift, e, ahead, behind)
+// Above any gain and any loss, which are below 2⁶².
+const NO_DRIFT: Drift = Drift {
+    gain: 4611686018427387904,
+    loss: 4611686018427387904,
+};
+
+/// Whom the starts reached, and whether premise 3 is kept; by head, the least gain and loss of its entries, and whether premise 2 is;
+/// whom the votes and the adjusts reached, and what was found of the two phases.
+#[derive(Clone, Copy)]
+pub struct Judge {
+    pub times: StartTimes,
+    pub in_time: bool,
+    pub drifts: [Drift; 16],
+    pub steady: bool,
+    pub receivers: Receivers,
+    pub votes: Findings,
+    pub adjusts: Findings,
 }
 
-// The number to set in what was found so far: that of a premise which the entry breaks or of a late frame, else 0.
-pub fn breaks(
-    g: Setting,
-    e: Entry,
-    heads: &[Row; 16],
-    received: &mut [u16; 512],
-    times: &mut [u32; 256],
-    found: &mut [u8; 16],
-) -> usize
-    ensures { (ws : List ℕ) (i : ℕ) (s : History) → Stands ws i s heads.now → g ≡ setting_at ws → e ≡ entry_at ws i → (answer_at ws i s).verdict ≡ Accepted
-        → JudgeState g s received.old times.old found.old
-        → JudgeState g (event_at ws i s ∷ s) received.new times.new (set found.new result 1) × (result < 16) }
-{
-    let a = e.action;
-    match a {
-        2 => start_delivered_breaks(g, e, heads, times),
-        3 => start_confirmed_breaks(g, e, times),
-        5 => frame_breaks(g, e, 0, received, found),
-        6 => close_breaks(g, e, 0, heads, received, times, found),
-        8 => frame_breaks(g, e, 1, received, found),
-        9 => close_breaks(g, e, 1, heads, received, times, found),
-        _ => 0,
+impl Judge {
+    /// Before the first entry.
+    pub fn new() -> Judge
+        ensures { (g : Setting) → result ≡ judge_of g [] }
+    {
+        Judge {
+            times: StartTimes([0; 256]),
+            in_time: true,
+            drifts: [NO_DRIFT; 16],
+            steady: true,
+            receivers: Receivers([0; 512]),
+            votes: Findings::new(),
+            adjusts: Findings::new(),
+        }
+    }
+
+    /// Premise 2 of an accepted entry and those before it. It needs no rows, and asked last it costs the fewest instructions.
+    pub fn keep_drift(&mut self, g: Setting, e: Entry)
+        ensures { (ws : List ℕ) (i : ℕ) (s : History) (heads : List HeadRow) → Stands ws i s heads → g ≡ setting_at ws → e ≡ entry_at ws i → (answer_at ws i s).verdict ≡ Accepted
+            → self.old.drifts ≡ drifts_of g s → self.old.steady ≡ premise2 g s
+            → self.new ≡ record self.old { drifts = drifts_of g (event_at ws i s ∷ s); steady = premise2 g (event_at ws i s ∷ s) } }
+    {
+        let h = head_index(e.head);
+        let before = self.drifts[h];
+        self.drifts[h] = before.least(Drift::of(g.drift, e, 0));
+        self.steady = before.stays_steady(is_correct(g, e.head), g.drift, e) & self.steady;
+    }
+
+    /// The other premises at an accepted entry, on the heads' rows before it. Its action is a number, as `Entry` has it.
+    pub fn ask(&mut self, g: Setting, e: Entry, heads: &[HeadRow; 16])
+        ensures { (ws : List ℕ) (i : ℕ) (s : History) → Stands ws i s heads.now → g ≡ setting_at ws → e ≡ entry_at ws i → (answer_at ws i s).verdict ≡ Accepted
+            → self.old ≡ judge_of g s → self.new ≡ record (judge_of g (event_at ws i s ∷ s)) { drifts = drifts_of g s; steady = premise2 g s } }
+    {
+        match e.action {
+            2 => {
+                self.in_time = self.times.delivered(g, e, heads) & self.in_time;
+            }
+            3 => {
+                self.in_time = self.times.confirmed(g, e) & self.in_time;
+            }
+            5 => {
+                self.receivers.delivered(e);
+                self.votes.delivered(g, e);
+            }
+            6 => {
+                self.votes
+                    .close(g, e, Kind::Votes, heads, &self.receivers, &self.times);
+            }
+            8 => {
+                self.receivers.delivered(e);
+                self.adjusts.delivered(g, e);
+            }
+            9 => {
+                self.adjusts
+                    .close(g, e, Kind::Adjusts, heads, &self.receivers, &self.times);
+            }
+            _ => {}
+        }
     }
 }

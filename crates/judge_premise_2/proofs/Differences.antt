@@ -55,23 +55,14 @@ module _ {d t a k : ℕ} (b : Bounded d t a k) where
   apart : Difference (a + 0) (0 + t) (to_z w64 a -ℤ to_z w64 t)
   apart = difference_sub (of_number a (omega arith)) (of_number t (omega arith))
 
-  pub apart_fits : SFits w64 (to_z w64 a -ℤ to_z w64 t)
-  apart_fits = fits apart (omega arith) (omega arith)
-
   scaled : Difference (1000000 * (a + 0)) (1000000 * (0 + t)) (pos 1000000 *ℤ word (to_z w64 a -ℤ to_z w64 t))
   scaled = difference_times 1000000 (of_word apart (omega arith) (omega arith))
-
-  pub ahead_fits : SFits w64 (pos 1000000 *ℤ word (to_z w64 a -ℤ to_z w64 t))
-  ahead_fits = fits scaled (omega arith) (omega arith)
 
   is_ahead : Difference (1000000 * (a + 0)) (1000000 * (0 + t)) (ahead t a)
   is_ahead = of_word scaled (omega arith) (omega arith)
 
   behind : Difference (0 + 1000000 * (0 + t)) (0 + 1000000 * (a + 0)) (pos 0 -ℤ ahead t a)
   behind = difference_sub (difference_pos 0) is_ahead
-
-  pub behind_fits : SFits w64 (pos 0 -ℤ ahead t a)
-  behind_fits = fits behind (omega arith) (omega arith)
 
   is_behind : Difference (0 + 1000000 * (0 + t)) (0 + 1000000 * (a + 0)) (word (pos 0 -ℤ ahead t a))
   is_behind = of_word behind (omega arith) (omega arith)
@@ -81,9 +72,6 @@ module _ {d t a k : ℕ} (b : Bounded d t a k) where
 
   product : Difference (d * t) 0 (to_z w64 d *ℤ to_z w64 t)
   product = subst (Difference (d * t) 0) (sym (ap₂ ◌*ℤ◌ (to_z_pos w64 (omega arith)) (to_z_pos w64 (omega arith)))) (difference_pos (d * t))
-
-  pub allowed_fits : SFits w64 (to_z w64 d *ℤ to_z w64 t)
-  allowed_fits = fits product (omega (arith, allowed_below)) (omega arith)
 
   -- a difference less what drift allows, and that less the slack
   module _ {x y : ℕ} {z : ℤ} (is : Difference x y z) (fx : x < 2 ^ 53) (fy : y < 2 ^ 53) where
@@ -101,9 +89,6 @@ module _ {d t a k : ℕ} (b : Bounded d t a k) where
 
     both_less_is : (u v : ℕ) → x + v ≡ u + (y + d * t + k) → word (word (z -ℤ allowed d t) -ℤ to_z w64 k) ≡ sub_ℕ u v
     both_less_is u v e = difference_is (of_word both_less (omega arith) (omega (arith, allowed_below))) u v (omega arith)
-
-  pub gain_allowed_fits : SFits w64 (ahead t a -ℤ allowed d t)
-  gain_allowed_fits = less_fits is_ahead (omega arith) (omega arith)
 
   pub gain_fits : SFits w64 (word (ahead t a -ℤ allowed d t) -ℤ to_z w64 k)
   gain_fits = both_less_fits is_ahead (omega arith) (omega arith)

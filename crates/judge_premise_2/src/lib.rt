@@ -1,44 +1,52 @@
-// Premise 2 of every two entries of a head, by two differences that each entry has by itself: of e after d the premise says
-// that neither difference of e is more than 1,000,000 above that of d. So the least of each is all to be kept.
+//! Premise 2 of every two entries of a head, by two differences that each entry has by itself: of e after d the premise says
+//! that neither difference of e is more than 1,000,000 above that of d. So the least of each is all to be kept.
 #![tactic(auto)]
 
 ghost use Rattle.std.specs.Prelude.{◌≡◌};
-ghost use Rattle.judge_premise_2.specs.Drift.{gain_of, loss_of, lesser_of, stays_steady};
+ghost use Rattle.judge_premise_2.specs.Drift.{drift_of, least_of, stays_steady};
 
 use protocol::Entry;
 
 // Millionths in one: drift is in parts per million.
 const MILLION: i64 = 1000000;
 
-// How far the head's clock has run ahead of real time, less what drift allows since real time 0 and less the slack.
-pub fn gain(drift: u16, e: Entry, slack: u32) -> i64
-    ensures { result ≡ gain_of drift e slack }
-{
-    let t = e.time.0 as i64;
-    let a = e.reading.0 as i64;
-    MILLION * (a - t) - drift as i64 * t - slack as i64
+/// How far a head's clock has run ahead of real time and how far it has fallen behind, in millionths of a microsecond, each less what
+/// drift allows since real time 0 and less a slack.
+#[derive(Clone, Copy)]
+pub struct Drift {
+    pub gain: i64,
+    pub loss: i64,
 }
 
-// How far it has fallen behind, less the same.
-pub fn loss(drift: u16, e: Entry, slack: u32) -> i64
-    ensures { result ≡ loss_of drift e slack }
-{
-    let t = e.time.0 as i64;
-    let a = e.reading.0 as i64;
-    0 - MILLION * (a - t) - drift as i64 * t - slack as i64
-}
+impl Drift {
+    /// At an entry of the head.
+    pub fn of(drift: u16, e: Entry, slack: u32) -> Drift
+        ensures { result ≡ drift_of drift e slack }
+    {
+        let t = e.time.0 as i64;
+        let ahead = MILLION * (e.reading.0 as i64 - t);
+        let allowed = drift as i64 * t;
+        Drift {
+            gain: ahead - allowed - slack as i64,
+            loss: 0 - ahead - allowed - slack as i64,
+        }
+    }
 
-pub fn lesser(x: i64, y: i64) -> i64
-    ensures { result ≡ lesser_of x y }
-{
-    if x < y { x } else { y }
-}
+    /// The least of each.
+    pub fn least(self, other: Drift) -> Drift
+        ensures { result ≡ least_of self other }
+    {
+        Drift {
+            gain: self.gain.min(other.gain),
+            loss: self.loss.min(other.loss),
+        }
+    }
 
-// Whether an entry of a correct head keeps premise 2 with the head's entries before it, of which the least gain and loss are given.
-pub fn stays_steady(correct: bool, drift: u16, e: Entry, ahead: i64, behind: i64) -> bool
-    ensures { result ≡ stays_steady correct drift e ahead behind }
-{
-    let up = gain(drift, e, 1000000);
-    let down = loss(drift, e, 1000000);
-    !correct | ((up <= ahead) & (down <= behind))
+    /// Whether an entry of a correct head keeps premise 2 with the head's entries before it, of which these are the least.
+    pub fn stays_steady(self, correct: bool, drift: u16, e: Entry) -> bool
+        ensures { result ≡ stays_steady correct drift e self }
+    {
+        let now = Drift::of(drift, e, 1000000);
+        !correct | ((now.gain <= self.gain) & (now.loss <= self.loss))
+    }
 }

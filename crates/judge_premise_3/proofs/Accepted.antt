@@ -1,20 +1,19 @@
 -- An accepted entry: the times before it, a start that it delivers, and the mark of a confirmed start in its sender's row.
 -- Main results: `confirmed_mark`, `starts_early`, `times_after`.
 use Rattle.std.proofs.Common.{◌≡◌, ℕ, ◌+◌, ◌*◌, ◌%◌, ◌^◌, ◌<◌, ◌≤◌, Bool, true, false, cond, ◌&&◌, List, [], ◌∷◌, get_or, set, sym, refl, ap, ◌∙◌, le_trans, arith}
+use Rattle.protocol.specs.declared.HeadRow.{HeadRow}
 use Rattle.protocol.specs.declared.Setting.{Setting}
 use Rattle.protocol.specs.declared.Entry.{Entry}
-use Rattle.protocol.specs.declared.Frame.{Frame}
-use Rattle.protocol.specs.declared.Frame.TheVariants.{NoFrame, Start, Vote, Adjust}
-use Rattle.protocol.specs.declared.Verdict.TheVariants.{Accepted}
+use Rattle.protocol.specs.Types.{Frame, NoFrame, Start, Vote, Adjust, Accepted}
 use Rattle.protocol.specs.Words.{entry_of, has_sender, setting_at, entry_at}
 use Rattle.protocol.specs.Step.{has_mark}
-use Rattle.protocol.specs.Row.{row_of}
 use Rattle.protocol.specs.Run.{Event, History, record_of, frame_of, last_time}
 use Rattle.protocol.specs.Premises.{receives, took, last_start}
 use Rattle.protocol.proofs.Tests.{cond_elim}
 use Rattle.protocol.proofs.Effects.{delivered_by, serial_of}
 use Rattle.protocol.proofs.Valid.{Taken, Valid, start, more, confirmed_took}
 use Rattle.head_open.proofs.Marks.{has_confirmed}
+use Rattle.protocol.specs.Row.{no_row}
 use Rattle.sheet_state.specs.Arrays.{answer_at, event_at, Stands}
 use Rattle.sheet_state.proofs.Standing.{entry_sized, at_most_16, valid_history, next_taken, row_at}
 use Rattle.judge_premise_3.specs.Starts.{start_times}
@@ -38,16 +37,11 @@ delivered_serial : {g : Setting} (s : History) (e : Event) → Taken g s e → e
 delivered_serial s e t h =
     sym t.asked.serial_is ∙ start_serial (frame_of s e.entry) (t.asked.frame_is ∙ ap (λ (a : ℕ). cond (has_sender a) a 0) h)
 
--- a start that is not confirmed breaks nothing
-pub unconfirmed : (correct : Bool) {confirmed : Bool} → confirmed ≡ false → ◌≡◌ {A = ℕ} 0 (cond (correct && confirmed) 3 0)
-unconfirmed true e = rw e refl
-unconfirmed false e = refl
-
 pub entry_time : (ws : List ℕ) (i : ℕ) → (entry_at ws i).time.0 < 2 ^ 28
 unfolding entry_of
 entry_time ws i = omega arith
 
-module _ {ws : List ℕ} {i : ℕ} {s : History} {heads : List (List ℕ)} (now : Stands ws i s heads) where
+module _ {ws : List ℕ} {i : ℕ} {s : History} {heads : List HeadRow} (now : Stands ws i s heads) where
   pub few_heads : {g : Setting} → g ≡ setting_at ws → g.n ≤ 16
   few_heads is = rw is (at_most_16 now)
 
@@ -56,12 +50,11 @@ module _ {ws : List ℕ} {i : ℕ} {s : History} {heads : List (List ℕ)} (now 
     pub head_small : e.head < 16
     head_small = rw is (entry_sized ws i).0
 
-    pub confirmed_mark : {j : ℕ} {b : Bool} → j ≡ e.sender % 16 → b ≡ has_mark (get_or (get_or heads j []) 1 0) 2 → b ≡ took 3 e.sender s
-    unfolding row_of
+    pub confirmed_mark : {j : ℕ} {b : Bool} → j ≡ e.sender % 16 → b ≡ has_mark (get_or heads j no_row).marks.0 2 → b ≡ took 3 e.sender s
     confirmed_mark at mark =
         let sized : e.sender < 16 = rw is (entry_sized ws i).1 in
-        mark ∙ ap (λ (p : ℕ). has_mark (get_or (get_or heads p []) 1 0) 2) (at ∙ omega arith)
-        ∙ ap (λ (row : List ℕ). has_mark (get_or row 1 0) 2) (row_at now e.sender sized)
+        mark ∙ ap (λ (p : ℕ). has_mark (get_or heads p no_row).marks.0 2) (at ∙ omega arith)
+        ∙ ap (λ (row : HeadRow). has_mark row.marks.0 2) (row_at now e.sender sized)
         ∙ has_confirmed (record_of (setting_at ws) s e.sender) ∙ confirmed_took (setting_at ws) (valid_history now) e.sender
 
     module _ (accepted : (answer_at ws i s).verdict ≡ Accepted) where

@@ -5,6 +5,7 @@ use mathlib.Core.List.{List}
 use Prim.Native.Nat.{ℕ, ◌^◌, ◌≤◌, ◌<◌}
 use native.Mathlib.Omega.{arith}
 use lib.ListN.{get_or}
+use Rattle.protocol.specs.declared.HeadRow.{HeadRow}
 use Rattle.protocol.specs.declared.Setting.{Setting}
 use Rattle.protocol.specs.Base.{◌⇒◌, all_below}
 use Rattle.protocol.specs.Words.{is_correct, heads_fit, setting_of, setting_at}
@@ -23,7 +24,7 @@ pub record Heads (g : Setting) : Type 0 where
   pub sixteen_bits : g.correct < 2 ^ 16
   pub below : (q : ℕ) → is_correct g q ≡ true → q < g.n
 
-pub heads_stand : {ws : List ℕ} {i : ℕ} {s : History} {rows : List (List ℕ)} → Stands ws i s rows → Heads (setting_at ws)
+pub heads_stand : {ws : List ℕ} {i : ℕ} {s : History} {rows : List HeadRow} → Stands ws i s rows → Heads (setting_at ws)
 unfolding setting_of
 heads_stand {ws} S =
     record {

@@ -1,13 +1,15 @@
--- Premises 5 to 8 by the heads that each vote and adjust reached, and by what was found at the entries before.
-use Rattle.std.specs.Prelude.{◌≡◌, Bool, cond, not, ◌&&◌, ◌||◌, List, [], ◌∷◌, ℕ, get_or}
+-- Premises 5 to 8 by the heads that each vote and adjust reached, and by what was found of each phase at the entries before.
+use Rattle.std.specs.Prelude.{Bool, not, ◌&&◌, ◌||◌, List, ℕ, get_or}
 use Rattle.protocol.specs.declared.Setting.{Setting}
 use Rattle.protocol.specs.Base.{◌⇒◌, any, table}
-use Rattle.protocol.specs.Record.{Kind, votes, adjusts}
+use Rattle.protocol.specs.declared.Kind.{Kind}
+use Rattle.protocol.specs.Record.{votes, adjusts}
 use Rattle.protocol.specs.Run.{History, record_of}
-use Rattle.protocol.specs.Premises.{delivery, took, received, each, correct_all, correct_takes, correct_closes, is_early, frames_reached, votes_reached, adjusts_reached, none_between, premise3, premise5, premise7}
+use Rattle.protocol.specs.Premises.{delivery, before, took, received, each, correct_all, correct_takes, correct_closes, is_early, frames_reached, votes_reached, adjusts_reached, none_between}
 use Rattle.data_sets.specs.Sets.{set_of, with_head, has_all}
 use Rattle.sheet_state.specs.Indices.{frame_index}
 use Rattle.sheet_state.specs.Arrays.{action_at, head_at, serial_at}
+use Rattle.judge_premises_5_to_8.specs.declared.Findings.{Findings}
 
 -- by sender and serial, the heads that a vote or an adjust reached
 unfoldable pub receiver_sets : History → List ℕ
@@ -29,20 +31,13 @@ abbrev pub phase_reached : Setting → Kind → History → Bool
 phase_reached g votes s = votes_reached g s
 phase_reached g adjusts s = adjusts_reached g s
 
--- a frame of the phase reached a correct head after the first correct close
-abbrev pub is_late : Setting → Kind → History → Bool
-is_late g k s = not (each (λ d past. correct_takes g (delivery k) d ⇒ not (any (correct_closes g k) past)) s)
-
--- what was found so far: 1 under the number of each broken premise of 3 and 5 to 8; under 10 (votes) and 11 (adjusts) whether
--- a frame came late, under 12 and 13 whether a correct head has closed the phase. Number 0 is of no account
-abbrev pub flag : Bool → ℕ
-flag b = cond b 1 0
-
-abbrev pub found_of : Setting → History → ℕ → List ℕ
-found_of g s first =
-    first ∷ 0 ∷ 0 ∷ flag (not (premise3 g s)) ∷ 0 ∷ flag (not (premise5 g s)) ∷ flag (not (none_between g votes s))
-    ∷ flag (not (premise7 g s)) ∷ flag (not (none_between g adjusts s)) ∷ 0 ∷ flag (is_late g votes s) ∷ flag (is_late g adjusts s)
-    ∷ flag (any (correct_closes g votes) s) ∷ flag (any (correct_closes g adjusts) s) ∷ 0 ∷ 0 ∷ []
-
-abbrev pub Found : Setting → History → List ℕ → Type 0
-Found g s found = found ≡ found_of g s (get_or found 0 0)
+-- what was found of a phase so far: premise 5 or 7 is kept, premise 6 or 8 is, no frame of the phase reached a correct head after the
+-- first correct close, and a correct head has closed the phase
+abbrev pub findings_of : Setting → History → Kind → Findings
+findings_of g s k =
+    record {
+      reached = any (correct_closes g k) s ⇒ phase_reached g k (before (correct_closes g k) s);
+      undisturbed = none_between g k s;
+      in_time = each (λ d past. correct_takes g (delivery k) d ⇒ not (any (correct_closes g k) past)) s;
+      closed = any (correct_closes g k) s;
+    }

@@ -10,10 +10,7 @@ use lib.ListN.{length}
 use borrow.Author.Tests.{ltb-false}
 use Rattle.protocol.specs.declared.Cause.{Cause}
 use Rattle.protocol.specs.declared.Cause.TheVariants.{ShortBuffer}
-use Rattle.protocol.specs.declared.Verdict.{Verdict}
-use Rattle.protocol.specs.declared.Verdict.TheVariants.{Accepted, Refused}
-use Rattle.protocol.specs.declared.Replayed.TheVariants.{Filled, TurnedBack}
-use Rattle.protocol.specs.declared.Judged.{Judged}
+use Rattle.protocol.specs.Types.{Verdict, Accepted, Refused, Filled, TurnedBack, Judged}
 use Rattle.protocol.specs.declared.Report.{Report}
 use Rattle.protocol.specs.Words.{setting_at, entry_count}
 use Rattle.protocol.specs.Causes.{sheet_verdict}

@@ -8,15 +8,12 @@ use native.Mathlib.Omega.{arith}
 use lib.Dec.{ltb}
 use lib.ListN.{length, drop}
 use borrow.Author.Tests.{lt-ltb, le-ltb}
+use Rattle.protocol.specs.declared.HeadRow.{HeadRow}
 use Rattle.protocol.specs.declared.Setting.{Setting}
 use Rattle.protocol.specs.declared.Cause.{Cause}
 use Rattle.protocol.specs.declared.Cause.TheVariants.{ShortBuffer}
-use Rattle.protocol.specs.declared.Verdict.{Verdict}
-use Rattle.protocol.specs.declared.Verdict.TheVariants.{Accepted, Refused}
-use Rattle.protocol.specs.declared.Replayed.{Replayed}
-use Rattle.protocol.specs.declared.Replayed.TheVariants.{Filled, TurnedBack}
-use Rattle.protocol.specs.declared.Judged.{Judged}
-use Rattle.protocol.specs.declared.Judged.TheVariants.{Kept, Broken, Unjudged}
+use Rattle.protocol.specs.Types.{Verdict, Accepted, Refused, Replayed, Filled, TurnedBack, Judged, Unjudged}
+use Rattle.std.specs.Prelude.{Option, Ok}
 use Rattle.protocol.specs.Words.{heads_fit, setting_at, entry_count}
 use Rattle.protocol.specs.Causes.{sheet_verdict}
 use Rattle.protocol.specs.Run.{History, record_of, stopped, ran, run_of, run_sheet}
@@ -38,14 +35,11 @@ not_unjudged i [] c p e = absurd (let z : ◌≡◌ {A = ℕ} 0 1 = cc in omega 
 not_unjudged i (true ∷ l) c p e = not_unjudged (suc i) l c p e
 not_unjudged i (false ∷ l) c p e = absurd (let z : ◌≡◌ {A = ℕ} 0 1 = cc in omega arith)
 
--- the two answers of one
-pub kept_judged : (j : Judged) → j ≡ Kept → (c : Cause) (p : ℕ) → j ≡ Unjudged c p → ⊥
-kept_judged j k c p u = let z : ◌≡◌ {A = ℕ} 0 1 = cc in omega arith
+-- the answer of one
+pub told_judged : (j : Judged) (x : Option ℕ) → j ≡ Ok x → (c : Cause) (p : ℕ) → j ≡ Unjudged c p → ⊥
+told_judged j x k c p u = let z : ◌≡◌ {A = ℕ} 0 1 = cc in omega arith
 
-pub broken_judged : (j : Judged) (i : ℕ) → j ≡ Broken i → (c : Cause) (p : ℕ) → j ≡ Unjudged c p → ⊥
-broken_judged j i k c p u = let z : ◌≡◌ {A = ℕ} 0 1 = cc in omega arith
-
-module _ (j : Judged) (n : ℕ) (heads : List (List ℕ)) (out : List ℕ) where
+module _ (j : Judged) (n : ℕ) (heads : List HeadRow) (out : List ℕ) where
   pub short_buffer : length out < words_per_head * n → Replays j n heads out (TurnedBack ShortBuffer 0) out
   short_buffer h g run passes n_is range =
       rw (lt-ltb (length out) (words_per_head * g.n) (subst (λ (m : ℕ). length out < words_per_head * m) n_is h)) (refl, refl)
@@ -94,11 +88,11 @@ module _ (ws : List ℕ) (v : Verdict) (is : v ≡ sheet_verdict ws) where
     pub few_heads : g.n ≤ 16
     few_heads = rw g-is (heads_fit_lem (setting_at ws).n (setting_at ws).f (sheet_fits ws (sym is ∙ e)).heads).1
 
-    pub whole_run : (count : ℕ) → count ≡ entry_count ws → (j : Judged) (heads : List (List ℕ)) → Passes g (run_of ws count) j heads
+    pub whole_run : (count : ℕ) → count ≡ entry_count ws → (j : Judged) (heads : List HeadRow) → Passes (setting_at ws) (run_of ws count) j heads
         → (out : List ℕ) (r : Replayed) (after : List ℕ) → Replays j g.n heads out r after
         → (r ≡ (replay ws out).answer) × (j ≡ judge ws) × (after ≡ (replay ws out).buffer)
     whole_run count all j heads passes out r after replays =
-        let p : Passes (setting_at ws) (run_of ws (entry_count ws)) j heads = subst (λ (h : Setting). Passes h (run_of ws (entry_count ws)) j heads) g-is (subst (λ (m : ℕ). Passes g (run_of ws m) j heads) all passes) in
+        let p : Passes (setting_at ws) (run_of ws (entry_count ws)) j heads = subst (λ (m : ℕ). Passes (setting_at ws) (run_of ws m) j heads) all passes in
         let fit = (sheet_fits ws (sym is ∙ e)).heads in
         let n_is : g.n ≡ (setting_at ws).n = ap (λ (h : Setting). h.n) g-is in
         let done = replays (setting_at ws) (run_of ws (entry_count ws)) p n_is (λ s h q lt. all_in_range ws (entry_count ws) fit s h q (subst (λ (m : ℕ). q < m) n_is lt)) in

@@ -11,7 +11,7 @@ use lib.ListN.{length, get_or, take, drop, take-append-drop}
 use borrow.Author.Tests.{eqb-true, eqb-false, ne_eqb, ltb-true}
 use Rattle.protocol.specs.Base.{◌⇒◌, all_below}
 use Rattle.protocol.specs.declared.Setting.{Setting}
-use Rattle.protocol.specs.declared.Judged.TheVariants.{Kept}
+use Rattle.protocol.specs.Types.{Kept}
 use Rattle.protocol.specs.Words.{setting_at}
 use Rattle.protocol.specs.Run.{Event, History, Run, stopped, ran, run_sheet}
 use Rattle.protocol.specs.Premises.{premises, first_broken, judge}

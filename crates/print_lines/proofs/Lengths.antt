@@ -1,6 +1,6 @@
 -- How long numbers and lines can be.
 -- Main results: `any_number`, `two_digits`, `time_digits`, `signed_digits`; `length_line`, `refused_short`, `premises_short`,
--- `broken_short`.
+-- `broken_short`, `last_short`.
 use mathlib.Core.Path.{◌≡◌, refl}
 use mathlib.Core.List.{List, [], ◌∷◌}
 use Prim.Native.Nat.{ℕ, zero, suc, ◌+◌, ◌-◌, ◌*◌, ◌/◌, ◌%◌, ◌^◌, ◌≤◌, ◌<◌}
@@ -15,6 +15,9 @@ use Rattle.protocol.specs.Causes.{cause_number}
 use Rattle.protocol.specs.Premises.{is_asked_at_end}
 use Rattle.protocol.specs.Program.{digits, decimal, signed, line, premises_word, refused_word, entry_word, end_word, refused_line, premises_line, broken_line}
 use Rattle.protocol.proofs.Tests.{cond_elim}
+use Rattle.print_lines.specs.declared.LastLine.{LastLine}
+use Rattle.print_lines.specs.declared.LastLine.TheVariants.{Premises, BrokenAtEnd, BrokenAt, Refused}
+use Rattle.print_lines.specs.Lines.{last_text}
 
 -- NUMBERS
 
@@ -83,3 +86,10 @@ broken_short i k =
     let b = any_number k in
     cond_elim (λ (l : List ℕ). length l ≤ 64) (is_asked_at_end i) (λ _. rw (length_line (premises_word ∷ decimal i ∷ end_word ∷ [])) (omega arith))
     (λ _. rw (length_line (premises_word ∷ decimal i ∷ entry_word ∷ decimal k ∷ [])) (omega arith))
+
+pub last_short : (x : LastLine) → length (last_text x) ≤ 64
+unfolding premises_line refused_line
+last_short (Premises i) = premises_short i
+last_short (BrokenAtEnd i) = let a = any_number i in rw (length_line (premises_word ∷ decimal i ∷ end_word ∷ [])) (omega arith)
+last_short (BrokenAt i k) = let a = any_number i in let b = any_number k in rw (length_line (premises_word ∷ decimal i ∷ entry_word ∷ decimal k ∷ [])) (omega arith)
+last_short (Refused c p) = refused_short c p

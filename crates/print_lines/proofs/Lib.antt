@@ -1,3 +1,3 @@
--- What the proofs of several functions use.
-pub mod Lines
+-- Laws that the proofs of this crate's functions, and their callers, cite.
+pub mod Digits
 pub mod Lengths

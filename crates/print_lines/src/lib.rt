@@ -1,101 +1,122 @@
-// The lines that the replay program prints, into a lent buffer: document 01, "The bench sheet, and its neighbours".
+//! The lines that the programs print, as values that print themselves: document 01, "The bench sheet, and its neighbours".
 #![tactic(auto)]
 
-ghost use Rattle.std.specs.Prelude.{◌≡◌, [], ◌∷◌, ◌++◌};
-ghost use Rattle.protocol.specs.Program.{decimal, line, head_lines, premises_line, refused_line, broken_line};
-ghost use Rattle.print_lines.specs.Lines.{head_line_of, result_lines};
-ghost use Rattle.print_text.specs.Written.{written, end_of};
+ghost use Rattle.std.specs.Prelude.{◌≡◌, Some};
+ghost use Rattle.protocol.specs.Program.{broken_line};
+ghost use Rattle.print_lines.specs.Lines.{head_text, head_line_of, last_text, result_lines};
 
-use data_values::cause_number;
-use print_text::{put, put_decimal, put_difference, put_text};
+use data_values::difference;
 use protocol::{Cause, TIME_LIMIT};
 use sheet_results::result_word;
+use std::fmt;
 
-// "One blank stands between fields"; each line ends with a newline
-const BLANK: u8 = 32;
-
-pub const NEWLINE: u8 = 10;
-
-// A field, and the blank behind it.
-pub fn put_field(x: u64, out: &mut [u8], at: usize) -> usize
-    ensures { (out.new ≡ written out.old at (decimal x ++ (32 ∷ []))) × (result ≡ end_of at (decimal x ++ (32 ∷ []))) }
-{
-    let p = put_decimal(out, at, x);
-    put(out, p, BLANK)
+/// How the round ended for a head.
+#[derive(Clone, Copy, Debug, PartialEq, Eq)]
+pub struct HeadLine {
+    pub head: u8,
+    pub outcome: u8,
+    pub candidate: u8,
+    pub adjuster: u8,
+    pub adjustment: u32,
+    pub start: u32,
 }
 
-// The last field, and the newline behind it.
-fn put_last(x: u64, out: &mut [u8], at: usize) -> usize
-    ensures { (out.new ≡ written out.old at (line (decimal x ∷ []))) × (result ≡ end_of at (line (decimal x ∷ []))) }
-{
-    let p = put_decimal(out, at, x);
-    put(out, p, NEWLINE)
-}
-
-// "head, outcome, candidate, adjuster, adjustment, start reading, correction"
-pub fn put_head_line(results: &[u32], q: u8, out: &mut [u8], at: usize) -> usize
-    ensures { (out.new ≡ written out.old at (head_line_of results.now q)) × (result ≡ end_of at (head_line_of results.now q)) }
-{
-    let w = result_word(results, q, 0);
-    let adjustment = result_word(results, q, 1) % TIME_LIMIT;
-    let start = result_word(results, q, 2) % TIME_LIMIT;
-    let p = put_field(q as u64, out, at);
-    let p = put_field(((w >> 24) % 16) as u64, out, p);
-    let p = put_field(((w >> 16) % 16) as u64, out, p);
-    let p = put_field(((w >> 12) % 16) as u64, out, p);
-    let p = put_field(adjustment as u64, out, p);
-    let p = put_field(start as u64, out, p);
-    let p = put_difference(out, p, adjustment, start);
-    put(out, p, NEWLINE)
-}
-
-// The lines of the first n heads.
-fn put_head_lines(results: &[u32], n: u8, out: &mut [u8], at: usize) -> usize
-    ensures { (out.new ≡ written out.old at (head_lines results.now n)) × (result ≡ end_of at (head_lines results.now n)) }
-{
-    let mut p = at;
-    let mut q: u8 = 0;
-    while q < n {
-        p = put_head_line(results, q, out, p);
-        q += 1;
+impl HeadLine {
+    /// Head q's, read off the result words.
+    #[tactic(auto, unfolding(crate::specs::Lines::head_text, crate::specs::Lines::head_line_of, protocol::specs::Claim::ending_in_words))]
+    pub fn of(results: &[u32], q: u8) -> HeadLine
+        ensures { head_text result ≡ head_line_of results.now q }
+    {
+        let w = result_word(results, q, 0);
+        HeadLine {
+            head: q,
+            outcome: ((w >> 24) % 16) as u8,
+            candidate: ((w >> 16) % 16) as u8,
+            adjuster: ((w >> 12) % 16) as u8,
+            adjustment: result_word(results, q, 1) % TIME_LIMIT,
+            start: result_word(results, q, 2) % TIME_LIMIT,
+        }
     }
-    p
 }
 
-// "then `premises` and the first broken premise or 0"
-pub fn put_premises(premise: u8, out: &mut [u8], at: usize) -> usize
-    ensures { (out.new ≡ written out.old at (premises_line premise)) × (result ≡ end_of at (premises_line premise)) }
-{
-    let p = put_text(out, at, b"premises ");
-    put_last(premise as u64, out, p)
-}
+// "per head: head, outcome, candidate, adjuster, adjustment, start reading, correction"
+impl fmt::Display for HeadLine {
+    ghost output = { λ x. Some (head_text x) };
 
-// The same of a broken premise, and where it was broken: at the end, or at an entry.
-pub fn put_broken(premise: u8, entry: usize, out: &mut [u8], at: usize) -> usize
-    ensures { (out.new ≡ written out.old at (broken_line premise entry)) × (result ≡ end_of at (broken_line premise entry)) }
-{
-    let p = put_text(out, at, b"premises ");
-    let p = put_field(premise as u64, out, p);
-    if (premise == 1) | (premise == 4) {
-        return put_text(out, p, b"end\n");
+    fn fmt<W: fmt::Write>(&self, f: &mut fmt::Formatter<W>) -> fmt::Result {
+        let HeadLine {
+            head,
+            outcome,
+            candidate,
+            adjuster,
+            adjustment,
+            start,
+        } = *self;
+        let correction = difference(adjustment, start);
+        writeln!(
+            f,
+            "{head} {outcome} {candidate} {adjuster} {adjustment} {start} {correction}"
+        )
     }
-    let p = put_text(out, p, b"entry ");
-    put_last(entry as u64, out, p)
 }
 
-// The heads' lines, and the line of the premises.
-pub fn put_results(results: &[u32], n: u8, premise: u8, out: &mut [u8], at: usize) -> usize
-    ensures { (out.new ≡ written out.old at (result_lines results.now n premise)) × (result ≡ end_of at (result_lines results.now n premise)) }
-{
-    let p = put_head_lines(results, n, out, at);
-    put_premises(premise, out, p)
+/// The line behind the heads' lines, or the only one of a sheet that is turned back.
+#[derive(Clone, Copy, Debug, PartialEq, Eq)]
+pub enum LastLine {
+    Premises(u8),
+    BrokenAtEnd(u8),
+    BrokenAt(u8, usize),
+    Refused(Cause, usize),
 }
 
-// "or only `refused`, number, place"
-pub fn put_refused(c: Cause, place: usize, out: &mut [u8], at: usize) -> usize
-    ensures { (out.new ≡ written out.old at (refused_line c place)) × (result ≡ end_of at (refused_line c place)) }
-{
-    let p = put_text(out, at, b"refused ");
-    let p = put_field(cause_number(c) as u64, out, p);
-    put_last(place as u64, out, p)
+impl LastLine {
+    /// Of a broken premise: premises 1 and 4 are asked at the end, the others at an entry.
+    #[tactic(auto, unfolding(protocol::specs::Program::broken_line))]
+    pub fn broken(premise: u8, entry: usize) -> LastLine
+        ensures { last_text result ≡ broken_line premise entry }
+    {
+        match premise {
+            1 | 4 => LastLine::BrokenAtEnd(premise),
+            _ => LastLine::BrokenAt(premise, entry),
+        }
+    }
+}
+
+impl fmt::Display for LastLine {
+    ghost output = { λ x. Some (last_text x) };
+
+    #[tactic(auto, using(crate::proofs::Digits::decimal_same), unfolding(protocol::specs::Program::line, protocol::specs::Program::premises_line))]
+    fn fmt<W: fmt::Write>(&self, f: &mut fmt::Formatter<W>) -> fmt::Result {
+        match *self {
+            LastLine::Premises(i) => writeln!(f, "premises {i}"),
+            LastLine::BrokenAtEnd(i) => writeln!(f, "premises {i} end"),
+            LastLine::BrokenAt(i, k) => writeln!(f, "premises {i} entry {k}"),
+            LastLine::Refused(c, p) => {
+                let number = u32::from(c);
+                writeln!(f, "refused {number} {p}")
+            }
+        }
+    }
+}
+
+/// What a run leaves that is not turned back: the result words of n heads, and the first broken premise or 0.
+#[derive(Clone, Copy)]
+pub struct Results {
+    pub words: [u32; 64],
+    pub n: u8,
+    pub premise: u8,
+}
+
+impl fmt::Display for Results {
+    ghost output = { λ x. Some (result_lines x.words x.n x.premise) };
+
+    #[tactic(auto, unfolding(crate::specs::Lines::result_lines, crate::specs::Lines::head_line_of, protocol::specs::Program::head_lines))]
+    fn fmt<W: fmt::Write>(&self, f: &mut fmt::Formatter<W>) -> fmt::Result {
+        for q in 0..self.n {
+            let line = HeadLine::of(&self.words, q);
+            write!(f, "{line}")?;
+        }
+        let last = LastLine::Premises(self.premise);
+        write!(f, "{last}")
+    }
 }

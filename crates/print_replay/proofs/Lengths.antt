@@ -6,8 +6,7 @@ use Prim.Native.Nat.{ℕ, zero, suc, ◌*◌, ◌≤◌, ◌<◌}
 use native.Mathlib.Omega.{arith}
 use lib.IntN.{sub_ℕ}
 use lib.ListN.{length, length-append}
-use Rattle.protocol.specs.declared.Verdict.{Verdict}
-use Rattle.protocol.specs.declared.Verdict.TheVariants.{Accepted, Refused}
+use Rattle.protocol.specs.Types.{Verdict, Accepted, Refused}
 use Rattle.protocol.specs.Words.{bits, time_of, setting_at}
 use Rattle.protocol.specs.Run.{Run, stopped, ran, run_sheet}
 use Rattle.protocol.specs.Results.{result_words}

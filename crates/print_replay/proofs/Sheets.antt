@@ -1,17 +1,16 @@
 -- What a replay leaves is what the program prints of a sheet.
--- Main results: `prints_refusal`, `prints_results`, `prints_cause`, `prints_sheet`, `prints`.
+-- Main results: `turned_back`, `prints_refusal`, `prints_results`, `prints_cause`, `prints_sheet`.
 use mathlib.Core.Path.{◌≡◌, refl, sym, ◌∙◌, ap}
 use mathlib.Core.List.{List, ◌++◌}
 use Prim.Native.Nat.{ℕ, zero, suc, ◌+◌, ◌*◌, ◌≤◌, ◌<◌}
 use native.Mathlib.Omega.{arith}
 use lib.ListN.{length, get_or, drop, get_or-append}
 use borrow.Author.Tests.{le-ltb}
+use Rattle.std.specs.Prelude.{[], Result, Ok, Err, IsErrAnd}
+use Rattle.protocol.specs.declared.Refusal.{Refusal}
 use Rattle.protocol.specs.declared.Setting.{Setting}
 use Rattle.protocol.specs.declared.Cause.{Cause}
-use Rattle.protocol.specs.declared.Verdict.{Verdict}
-use Rattle.protocol.specs.declared.Verdict.TheVariants.{Accepted, Refused}
-use Rattle.protocol.specs.declared.Replayed.{Replayed}
-use Rattle.protocol.specs.declared.Replayed.TheVariants.{Filled, TurnedBack}
+use Rattle.protocol.specs.Types.{Verdict, Accepted, Refused, Replayed, Filled, TurnedBack}
 use Rattle.protocol.specs.Words.{setting_at, entry_count}
 use Rattle.protocol.specs.Causes.{sheet_verdict}
 use Rattle.protocol.specs.Run.{History, record_of, Run, stopped, ran, run_of, after_verdict, run_sheet}
@@ -22,10 +21,19 @@ use Rattle.protocol.specs.Program.{head_line, head_lines, refused_line, big_endi
 use Rattle.protocol.proofs.Valid.{heads_fit_lem, accepted_sheet}
 use Rattle.protocol.proofs.ResultWords.{length_words, filled}
 use Rattle.protocol.proofs.Fits.{sheet_fits}
-use Rattle.print_text.specs.Written.{written}
-use Rattle.print_text.proofs.Texts.{Wrote, from_first}
 use Rattle.print_lines.specs.Lines.{result_lines}
-use Rattle.print_replay.proofs.Lengths.{printed_short}
+use Rattle.print_lines.specs.declared.Results.{Results}
+use Rattle.print_replay.specs.Printout.{text_of}
+
+-- the line of a refusal: `cc` takes equal records apart no further
+abbrev line_of : {A : Type 0} → Result A Refusal → List ℕ
+line_of (Ok _) = []
+line_of (Err x) = refused_line x.cause x.place
+
+-- what `?` hands on
+pub turned_back : (r : Result Results Refusal) (x : Refusal) → IsErrAnd r (λ y. y ≡ x) → text_of r ≡ refused_line x.cause x.place
+turned_back (Ok _) x e = absurd e
+turned_back (Err y) x e = ap (λ (x : Refusal). refused_line x.cause x.place) e
 
 -- LINES OF THE SAME WORDS
 
@@ -71,7 +79,7 @@ module _ (ws out : List ℕ) (room : 64 ≤ length out) where
   prints_refusal r c p is e = go (run_sheet ws) refl
     where
       go : (x : Run) → run_sheet ws ≡ x → refused_line c p ≡ print_run (setting_at ws) (judge ws) x
-      go (stopped d k) h = let same : TurnedBack c p ≡ TurnedBack d k = sym e ∙ is ∙ stopped_answer d k h in cc
+      go (stopped d k) h = let same : TurnedBack c p ≡ TurnedBack d k = sym e ∙ is ∙ stopped_answer d k h in ap (λ (x : Replayed). line_of x) same
       go (ran s) h =
           let few = (accepted_sheet ws s h).at_most_16 in
           let other : TurnedBack c p ≡ Filled = sym e ∙ is ∙ ap (λ (x : Replay). x.answer) (filled ws out s h (omega arith)) in
@@ -104,9 +112,3 @@ module _ (bytes : List ℕ) (v : Verdict) (says : v ≡ bytes_verdict bytes) whe
   pub prints_sheet : v ≡ Accepted → (ws : List ℕ) → ws ≡ big_endian bytes → print_sheet ws ≡ printed bytes
   unfolding printed
   prints_sheet e ws is = rw (← says, e, is) refl
-
--- it starts at the buffer's first byte, and the position that comes back is the number of bytes
-pub prints : (bytes out after text : List ℕ) (r : ℕ) → text ≡ printed bytes → Wrote out after 0 r text
-    → (after ≡ written out 0 (printed bytes)) × (r ≡ length (printed bytes)) × (r ≤ 1024)
-prints bytes out after text r e w =
-    let bound = from_first out after text r 1024 (rw e (printed_short bytes)) (omega arith) w in (rw (← e) w.0, rw (← e) bound.0, bound.1)

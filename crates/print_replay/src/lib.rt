@@ -1,55 +1,72 @@
-// What the replay program prints, into a lent buffer: document 01, "The bench sheet, and its neighbours".
+//! What the replay program prints: document 01, "The bench sheet, and its neighbours".
 #![tactic(auto)]
 
-ghost use Rattle.std.specs.Prelude.{◌≡◌, ◌≤◌, length};
+ghost use Rattle.std.specs.Prelude.{◌≡◌, ◌≤◌, length, Some};
 ghost use Rattle.protocol.specs.Premises.{premise_number};
 ghost use Rattle.protocol.specs.Program.{print_sheet, printed};
-ghost use Rattle.print_text.specs.Written.{written, end_of};
+ghost use Rattle.print_replay.specs.Printout.{text_of, printout_text};
 
 use data_bytes::{big_endian, bytes_verdict};
 use judge_sheet::replay_and_judge;
-use print_lines::{put_refused, put_results};
-use protocol::{Judged, Replayed, Verdict};
+use print_lines::{LastLine, Results};
+use protocol::Refusal;
 use sheet_words::setting_at;
+use std::fmt;
 
-fn premise_number(j: Judged) -> u8
-    ensures { result ≡ premise_number j }
-{
-    match j {
-        Judged::Kept => 0,
-        Judged::Broken(i) => i,
-        Judged::Unjudged(_, _) => 0,
+/// All that is printed of a sheet's bytes: the results, or why it is turned back.
+#[derive(Clone, Copy)]
+pub struct Printout(pub Result<Results, Refusal>);
+
+impl Printout {
+    #[tactic(auto, using(crate::proofs::Lengths::printed_short))]
+    pub fn of(bytes: &[u8]) -> Printout
+        ensures text { printout_text result ≡ printed bytes.now }
+        ensures short { length (printout_text result) ≤ 1024 }
+    {
+        Printout(results_of_bytes(bytes))
     }
+}
+
+impl fmt::Display for Printout {
+    ghost output = { λ x. Some (printout_text x) };
+
+    fn fmt<W: fmt::Write>(&self, f: &mut fmt::Formatter<W>) -> fmt::Result {
+        match self.0 {
+            Ok(results) => write!(f, "{results}"),
+            Err(Refusal { cause, place }) => {
+                let line = LastLine::Refused(cause, place);
+                write!(f, "{line}")
+            }
+        }
+    }
+}
+
+fn premise_number(judged: Result<Option<u8>, Refusal>) -> u8
+    ensures { result ≡ premise_number judged }
+{
+    judged.ok().flatten().unwrap_or(0)
 }
 
 // A sheet has at most 16 heads, with 64 result words.
-fn print_sheet(sheet: &[u32], out: &mut [u8]) -> usize
-    ensures { (out.new ≡ written out.old 0 (print_sheet sheet.now)) × (result ≡ end_of 0 (print_sheet sheet.now)) }
+fn results_of(sheet: &[u32]) -> Result<Results, Refusal>
+    ensures { text_of result ≡ print_sheet sheet.now }
 {
-    let mut results = [0u32; 64];
-    let report = replay_and_judge(sheet, &mut results);
-    let replayed = report.replayed;
-    match replayed {
-        Replayed::TurnedBack(c, place) => put_refused(c, place, out, 0),
-        Replayed::Filled => {
-            let g = setting_at(sheet);
-            let judged = report.judged;
-            let k = premise_number(judged);
-            put_results(&results, g.n, k, out, 0)
-        }
-    }
+    let mut words = [0u32; 64];
+    let report = replay_and_judge(sheet, &mut words);
+    report.replayed?;
+    Ok(Results {
+        words,
+        n: setting_at(sheet).n,
+        premise: premise_number(report.judged),
+    })
 }
 
-// What is printed of a sheet's bytes.
-pub fn print(bytes: &[u8], out: &mut [u8]) -> usize
-    ensures { (out.new ≡ written out.old 0 (printed bytes.now)) × (result ≡ length (printed bytes.now)) × (result ≤ 1024) }
+fn results_of_bytes(bytes: &[u8]) -> Result<Results, Refusal>
+    ensures { text_of result ≡ printed bytes.now }
 {
-    let v = bytes_verdict(bytes);
-    match v {
-        Verdict::Refused(c) => put_refused(c, 0, out, 0),
-        Verdict::Accepted => {
-            let words = big_endian(bytes);
-            print_sheet(&words[..bytes.len() / 4], out)
-        }
+    if let Err(cause) = bytes_verdict(bytes) {
+        return Err(Refusal { cause, place: 0 });
     }
+    let words = big_endian(bytes);
+    results_of(&words[..bytes.len() / 4])
 }

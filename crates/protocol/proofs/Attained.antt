@@ -3,6 +3,7 @@
 -- deliveries are as far apart as the tightness allows. Three sheets: every head closes both phases early; none does, a third head
 -- being silent; head 0 does, and head 1, which the third head's frames do not reach, closes both by entry.
 -- Main results: `bound_attained`.
+use Rattle.std.specs.Prelude.{Err}
 use mathlib.Core.Path.{◌≡◌, refl}
 use mathlib.Core.Bool.{Bool, true, false, ◌&&◌}
 use mathlib.Core.List.{List, [], ◌∷◌}
@@ -11,7 +12,7 @@ use lib.Dec.{eqb}
 use lib.ListN.{get_or}
 use borrow.Author.Tests.{eqb-true}
 use Rattle.protocol.specs.Base.{all, table}
-use Rattle.protocol.specs.Types.{HeadRecord, Setting, Entry, Judged, Kept, Broken, Unjudged}
+use Rattle.protocol.specs.Types.{HeadRecord, Setting, Entry, Judged, Kept, Broken}
 use Rattle.protocol.specs.Words.{setting_at, entry_at}
 use Rattle.protocol.specs.Record.{corrected_clock, mark_number}
 use Rattle.protocol.specs.Run.{History, Run, stopped, ran, record_of, run_sheet}
@@ -120,12 +121,12 @@ pub record Attains (x : Widest) : Type 0 where
 abbrev is_kept : Judged → Bool
 is_kept Kept = true
 is_kept (Broken i) = false
-is_kept (Unjudged c p) = false
+is_kept (Err x) = false
 
 is_kept_lem : (j : Judged) → is_kept j ≡ true → j ≡ Kept
 is_kept_lem Kept e = refl
 is_kept_lem (Broken i) e = absurd_bool e refl
-is_kept_lem (Unjudged c p) e = absurd_bool e refl
+is_kept_lem (Err x) e = absurd_bool e refl
 
 abbrev passes : Widest → Bool
 passes x = is_kept (judge x.words) && (eqb (distance_in x) (bound_in x) && same_list (early_marks (setting_at x.words) (run_sheet x.words)) x.early)

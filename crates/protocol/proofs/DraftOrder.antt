@@ -11,7 +11,8 @@ use lib.ListN.{length, get_or, take, get_or-append, length-append, take-append-d
 use lib.Seq.{get_or-append-add, drop-cons, length-take-le}
 use borrow.Author.Tests.{ltb-true, ltb-false, eqb-false, ne_eqb}
 use Rattle.protocol.specs.Words.{has_serial, has_sender, zero_where_unused}
-use Rattle.protocol.specs.Record.{Kind, votes, adjusts}
+use Rattle.protocol.specs.declared.Kind.{Kind}
+use Rattle.protocol.specs.Record.{votes, adjusts}
 use Rattle.protocol.specs.Premises.{turning, delivery, closing}
 use Rattle.protocol.specs.Draft.{Slot, slots, phase_order, round_order, draft_entry, is_receiver, entries_from, draft_entries, last_slot_time}
 use Rattle.protocol.proofs.Tests.{absurd_bool, cases, not_true}

@@ -12,7 +12,8 @@ use borrow.Author.Tests.{le-leb, eqb-true, eqb-false, eq-eqb}
 use Rattle.protocol.specs.Base.{◌⇒◌, any, all, count_below, distance}
 use Rattle.protocol.specs.Types.{Setting, Entry}
 use Rattle.protocol.specs.Words.{is_correct, has_sender}
-use Rattle.protocol.specs.Record.{Kind, votes, adjusts}
+use Rattle.protocol.specs.declared.Kind.{Kind}
+use Rattle.protocol.specs.Record.{votes, adjusts}
 use Rattle.protocol.specs.Run.{Event, History, record_of}
 use Rattle.protocol.specs.Premises.{turning, delivery, closing, takes, receives, took, received, each, last_start, is_steady, correct_all, correct_takes, correct_closes, is_early}
 use Rattle.protocol.specs.Premises.{premise1, premise2, start_within, premise3, premise4, frames_reached, votes_reached, none_between, premise6, adjusts_reached, premise8}

@@ -1,6 +1,7 @@
 -- The run of a drafted round: every entry is taken, head 0 is everybody's choice in both phases, and no head sends a second vote or
 -- adjust. What has come before an entry is DraftPast's; here is what the steps made of it.
 -- Main results: `Plain`, `ran_more` (one entry more), `by_run` (the whole round).
+use Rattle.std.specs.Prelude.{Option, Some, None, is_some}
 use mathlib.Core.Path.{◌≡◌, refl, sym, ◌∙◌, ap, subst}
 use mathlib.Core.Bool.{Bool, true, false, cond, not, ◌||◌}
 use mathlib.Core.List.{[], ◌∷◌}
@@ -11,9 +12,10 @@ use native.Mathlib.Omega.{arith}
 use lib.Dec.{ltb, eqb}
 use borrow.Author.Tests.{ltb-true, ltb-false, lt-ltb, le-ltb, le-leb, eqb-true, eqb-false, ne_eqb}
 use Rattle.protocol.specs.Types.{Action, Look, VoteClose, AdjustTurn, AdjustClose}
-use Rattle.protocol.specs.Types.{HeadRecord, Reading, OptNumber, NoNumber, SomeNumber, Setting, Entry, Stepped, Verdict, Accepted, Refused, Frame}
+use Rattle.protocol.specs.Types.{HeadRecord, Reading, Setting, Entry, Stepped, Verdict, Accepted, Refused, Frame}
 use Rattle.protocol.specs.Words.{has_sender, heads_fit}
-use Rattle.protocol.specs.Record.{Kind, votes, adjusts, phase_of, is_reading, is_number, start_of, vote_of, fresh}
+use Rattle.protocol.specs.declared.Kind.{Kind}
+use Rattle.protocol.specs.Record.{votes, adjusts, phase_of, start_of, vote_of, fresh}
 use Rattle.protocol.specs.Step.{starts_held, is_closed, taken_as, take_action, action_of}
 use Rattle.protocol.specs.Run.{Event, History, record_of, frame_sent, frame_of, is_frame, input_of, last_time, step_entry}
 use Rattle.protocol.specs.Premises.{turning, delivery, closing, takes, took, each, is_early}
@@ -51,7 +53,7 @@ module _ (g : Setting) where
   module _ (k : Kind) where
     -- a phase so far in which no frame names anyone but head 0, and no head has sent a second one
     pub record Plain (s : History) : Type 0 where
-      pub names_0 : (p j c : ℕ) → names g k s p j ≡ SomeNumber c → c ≡ 0
+      pub names_0 : (p j c : ℕ) → names g k s p j ≡ Some c → c ≡ 0
       pub one : (q : ℕ) → sent g k s q ≤ 1
 
     plain_start : Plain []
@@ -62,19 +64,19 @@ module _ (g : Setting) where
         none_sent votes q = omega arith
         none_sent adjusts q = omega arith
 
-    pub held_0 : {s : History} → Valid g s → Plain s → (q c : ℕ) → held g k s q ≡ SomeNumber c → c ≡ 0
+    pub held_0 : {s : History} → Valid g s → Plain s → (q c : ℕ) → held g k s q ≡ Some c → c ≡ 0
     held_0 v z q c h =
         let j = held_sent g k v q c h in
         let f = last_frame g k v q j.0 j.1 in
         z.names_0 q j.0 c (f.names_it ∙ sym f.holds ∙ h)
 
     -- who has a choice has sent a frame under serial 0
-    frame_there : {s : History} → Valid g s → (p c : ℕ) → held g k s p ≡ SomeNumber c → is_frame (frame_sent s (delivery k) p 0) ≡ true
+    frame_there : {s : History} → Valid g s → (p c : ℕ) → held g k s p ≡ Some c → is_frame (frame_sent s (delivery k) p 0) ≡ true
     frame_there {s} v p c h = let j = held_sent g k v p c h in sym (sent_below g k v p 0) ∙ lt-ltb 0 (sent g k s p) (let e = j.1 in omega arith)
 
     -- if whoever else takes its turn has a choice already, an event leaves the phase plain
     plain_more : {s : History} {e : Event} → Taken g s e → Valid g s
-        → (e.entry.head ≢ 0 → (phase_of k (record_of g (e ∷ s) e.entry.head)).turn ≡ true → is_over g k s e.entry.head ≡ false → held g k s e.entry.head ≢ NoNumber)
+        → (e.entry.head ≢ 0 → (phase_of k (record_of g (e ∷ s) e.entry.head)).turn ≡ true → is_over g k s e.entry.head ≡ false → held g k s e.entry.head ≢ None)
         → Plain s → Plain (e ∷ s)
     plain_more {s} {e} t v follows z = record { names_0 = all_names; one = all_sent }
       where
@@ -82,9 +84,9 @@ module _ (g : Setting) where
         names_it y (own is none tu) = cases (eqb e.entry.head 0) (λ u. is ∙ eqb-true _ 0 u) (λ u. absurd (follows (eqb-false e.entry.head 0 u) tu y.was_open none))
         names_it y (reached a n) = z.names_0 _ _ y.choice n
 
-        all_names : (p j c : ℕ) → names g k (e ∷ s) p j ≡ SomeNumber c → c ≡ 0
+        all_names : (p j c : ℕ) → names g k (e ∷ s) p j ≡ Some c → c ≡ 0
         all_names p j c =
-            by_head (λ p. names g k (e ∷ s) p j ≡ SomeNumber c → c ≡ 0) e p
+            by_head (λ p. names g k (e ∷ s) p j ≡ Some c → c ≡ 0) e p
             (frame_new g k (λ j c. c ≡ 0) (turn g k t v) (z.names_0 e.entry.head) (λ y. names_it y y.origin) j c)
             (λ d h. z.names_0 p j c (sym (names_other g k e s p j d) ∙ h))
 
@@ -146,16 +148,16 @@ module _ (n f begin spacing : ℕ) (two : 2 ≤ n) (small : n ≤ 16) (few : 2 *
   -- WHAT HEADS HOLD
 
   -- no head has a candidate before the first confirmation
-  no_candidate : {i limit : ℕ} {s : History} → Until n begin spacing i limit s → Valid g s → limit ≤ 2 * n → (q : ℕ) → is_number (held g votes s q) ≡ false
+  no_candidate : {i limit : ℕ} {s : History} → Until n begin spacing i limit s → Valid g s → limit ≤ 2 * n → (q : ℕ) → is_some (held g votes s q) ≡ false
   no_candidate {s = s} u v h q = go (held g votes s q) refl
     where
-      go : (c : OptNumber) → held g votes s q ≡ c → is_number c ≡ false
-      go NoNumber w = refl
-      go (SomeNumber c) w = absurd_bool (candidate_confirmed g small fit v q c w) (not_yet u 3 c (omega arith))
+      go : (c : Option ℕ) → held g votes s q ≡ c → is_some c ≡ false
+      go None w = refl
+      go (Some c) w = absurd_bool (candidate_confirmed g small fit v q c w) (not_yet u 3 c (omega arith))
 
   -- a head that was delivered head 0's frame has a choice
   heard_choice : (k : Kind) {i limit : ℕ} {s : History} → Until n begin spacing i limit s → Valid g s → (q : ℕ) → 0 < q → q < n → opens n k + 1 < i → limit ≤ shuts n k + q
-      → (c : ℕ) × (held g k s q ≡ SomeNumber c)
+      → (c : ℕ) × (held g k s q ≡ Some c)
   heard_choice k u v q z l h c =
       delivered_holds g k small v q l (took_it u (first_heard k z l) h) (not_yet u (closing k) q (let eq = earliest_close n q k in omega arith))
 
@@ -165,8 +167,8 @@ module _ (n f begin spacing : ℕ) (two : 2 ≤ n) (small : n ≤ 16) (few : 2 *
     pub valid : Valid g s
     pub taken : each (is_taken g) s ≡ true
     pub plain : (k : Kind) → Plain g k s
-    pub turned : (k : Kind) → took (turning k) 0 s ≡ true → (c : ℕ) × (held g k s 0 ≡ SomeNumber c)
-    pub own_vote : (c : ℕ) → held g votes s 0 ≡ SomeNumber c → is_reading (vote_of (record_of g s 0) 0) ≡ true
+    pub turned : (k : Kind) → took (turning k) 0 s ≡ true → (c : ℕ) × (held g k s 0 ≡ Some c)
+    pub own_vote : (c : ℕ) → held g votes s 0 ≡ Some c → is_some (vote_of (record_of g s 0) 0) ≡ true
 
   ran_none : Ran []
   unfolding record_of fresh each
@@ -278,17 +280,17 @@ module _ (n f begin spacing : ℕ) (two : 2 ≤ n) (small : n ≤ 16) (few : 2 *
         turn_taken votes h = sym (turn_took g valid_now q) ∙ h
         turn_taken adjusts h = adjust_turned g valid_now q h
 
-    follows : (k : Kind) → q ≢ 0 → (phase_of k (record_of g (event ∷ s) q)).turn ≡ true → is_over g k s q ≡ false → held g k s q ≢ NoNumber
+    follows : (k : Kind) → q ≢ 0 → (phase_of k (record_of g (event ∷ s) q)).turn ≡ true → is_over g k s q ≡ false → held g k s q ≢ None
     follows k d tu o none = no_choice (delivered_choice g k small r.valid q (took_it u (first_heard k (omega arith) (facts at).head_below) (after_first k d tu)) o)
       where
-        no_choice : (c : ℕ) × (held g k s q ≡ SomeNumber c) → ⊥
+        no_choice : (c : ℕ) × (held g k s q ≡ Some c) → ⊥
         no_choice c = none_is_some (sym none ∙ c.1)
 
     plain_now : (k : Kind) → Plain g k (event ∷ s)
     plain_now k = plain_more g k t r.valid (follows k) (r.plain k)
 
     -- a choice is kept, or falls
-    still_held : (k : Kind) (c : ℕ) → held g k s 0 ≡ SomeNumber c → (c : ℕ) × (held g k (event ∷ s) 0 ≡ SomeNumber c)
+    still_held : (k : Kind) (c : ℕ) → held g k s 0 ≡ Some c → (c : ℕ) × (held g k (event ∷ s) 0 ≡ Some c)
     still_held k c h = let b = falls g k t r.valid 0 c (record { choice = c; holds = h; low = omega arith }) in (b.choice, b.holds)
 
     -- HEAD 0'S OWN TURNS
@@ -297,67 +299,67 @@ module _ (n f begin spacing : ℕ) (two : 2 ≤ n) (small : n ≤ 16) (few : 2 *
       its_slot b plain is = (facts at).timed (ap has_sender is ∙ plain) ∙ ap (λ (a : ℕ). earliest n a q) is ∙ ap (earliest n b) head-is
 
       -- it holds all starts, so it leads
-      candidate_now : a ≡ 4 → took 4 0 (event ∷ s) ≡ true → (c : ℕ) × (held g votes (event ∷ s) 0 ≡ SomeNumber c)
+      candidate_now : a ≡ 4 → took 4 0 (event ∷ s) ≡ true → (c : ℕ) × (held g votes (event ∷ s) 0 ≡ Some c)
       unfolding starts_held
       candidate_now is h = go (held g votes (event ∷ s) 0) refl
         where
-          impossible : held g votes (event ∷ s) 0 ≡ NoNumber → ⊥
+          impossible : held g votes (event ∷ s) 0 ≡ None → ⊥
           impossible w =
               let here = its_slot 4 refl is in
               let x = fixed g valid_now 0 in
               let vote-open = closed_took g votes valid_now 0 ∙ or_neither (not_yet until_now 6 0 (omega arith)) (none_early g votes small valid_now 0 (omega arith) w) in
               let few-held = waits g small valid_now 0 (turn_took g valid_now 0 ∙ h) vote-open w in
-              let all_held : starts_held (record_of g (event ∷ s) 0) ≡ n = rw x.n_is (count_all n (λ v. is_reading (start_of (record_of g (event ∷ s) 0) v))
-              (λ v l. ap is_reading (start_found g small valid_now 0 v (until_now.done (start_heard (omega arith) l) (omega arith)) (adjust_open valid_now 0 (omega arith) vote-open)).reading_is)) in
+              let all_held : starts_held (record_of g (event ∷ s) 0) ≡ n = rw x.n_is (count_all n (λ v. is_some (start_of (record_of g (event ∷ s) 0) v))
+              (λ v l. ap is_some (start_found g small valid_now 0 v (until_now.done (start_heard (omega arith) l) (omega arith)) (adjust_open valid_now 0 (omega arith) vote-open)).reading_is)) in
               let f_is = x.f_is in
               omega arith
 
-          go : (c : OptNumber) → held g votes (event ∷ s) 0 ≡ c → (c : ℕ) × (held g votes (event ∷ s) 0 ≡ SomeNumber c)
-          go NoNumber w = absurd (impossible w)
-          go (SomeNumber c) w = (c, w)
+          go : (c : Option ℕ) → held g votes (event ∷ s) 0 ≡ c → (c : ℕ) × (held g votes (event ∷ s) 0 ≡ Some c)
+          go None w = absurd (impossible w)
+          go (Some c) w = (c, w)
 
       -- it has a candidate and a vote reading of its own, so it has an adjuster; one that has closed its adjust phase early has one too
-      adjuster_now : a ≡ 7 → (c : ℕ) × (held g adjusts (event ∷ s) 0 ≡ SomeNumber c)
+      adjuster_now : a ≡ 7 → (c : ℕ) × (held g adjusts (event ∷ s) 0 ≡ Some c)
       adjuster_now is =
           cases (is_early g adjusts s q) (λ e. let x = early_holds g adjusts small r.valid q (facts at).head_below e in still_held adjusts x.0 (ap (held g adjusts s) (sym head-is) ∙ x.1))
           (λ e. let here = its_slot 7 refl is in
           let candidate = r.turned votes (took_it u (leads votes (omega arith)) (omega arith)) in
-          some_number (held g adjusts (event ∷ s) 0) (subst (λ (x : ℕ). is_number (held g adjusts (event ∷ s) x) ≡ true) head-is
+          some_number (held g adjusts (event ∷ s) 0) (subst (λ (x : ℕ). is_some (held g adjusts (event ∷ s) x) ≡ true) head-is
           (adjuster_from_turn g event t r.valid candidate.0 (ap (held g votes s) head-is ∙ candidate.1)
-          (subst (λ (x : ℕ). is_reading (vote_of (record_of g s x) x) ≡ true) (sym head-is) (r.own_vote candidate.0 candidate.1)) (turn_at g event t is e))))
+          (subst (λ (x : ℕ). is_some (vote_of (record_of g s x) x) ≡ true) (sym head-is) (r.own_vote candidate.0 candidate.1)) (turn_at g event t is e))))
 
-    turned_now : (k : Kind) → took (turning k) 0 (event ∷ s) ≡ true → (c : ℕ) × (held g k (event ∷ s) 0 ≡ SomeNumber c)
+    turned_now : (k : Kind) → took (turning k) 0 (event ∷ s) ≡ true → (c : ℕ) × (held g k (event ∷ s) 0 ≡ Some c)
     turned_now k h =
         or_cases (takes (turning k) 0 event) (took (turning k) 0 s) h
         (λ w. here k h (eqb-true q 0 (and_left (eqb q 0) _ w)) (eqb-true a (turning k) (and_right (eqb q 0) _ w)))
         (λ w. let c = r.turned k w in still_held k c.0 c.1)
       where
-        here : (k : Kind) → took (turning k) 0 (event ∷ s) ≡ true → q ≡ 0 → a ≡ turning k → (c : ℕ) × (held g k (event ∷ s) 0 ≡ SomeNumber c)
+        here : (k : Kind) → took (turning k) 0 (event ∷ s) ≡ true → q ≡ 0 → a ≡ turning k → (c : ℕ) × (held g k (event ∷ s) 0 ≡ Some c)
         here votes h z is = candidate_now z is h
         here adjusts h z is = adjuster_now z is
 
     -- HEAD 0'S OWN VOTE READING
 
-    after_confirmed : (c : ℕ) → held g votes (event ∷ s) q ≡ SomeNumber c → 2 * n ≤ i
+    after_confirmed : (c : ℕ) → held g votes (event ∷ s) q ≡ Some c → 2 * n ≤ i
     after_confirmed c h =
         cases (ltb i (2 * n)) (λ y. let lt = ltb-true i (2 * n) y in absurd_bool (candidate_confirmed g small fit valid_now q c h) (not_yet until_now 3 c (omega arith))) (ltb-false i (2 * n))
 
-    start_known : (c : ℕ) → held g votes (event ∷ s) q ≡ SomeNumber c → (record_of g s q).vote.closed ≡ false → is_reading (start_of (record_of g (event ∷ s) q) c) ≡ true
+    start_known : (c : ℕ) → held g votes (event ∷ s) q ≡ Some c → (record_of g s q).vote.closed ≡ false → is_some (start_of (record_of g (event ∷ s) q) c) ≡ true
     start_known c h o =
         let z = held_0 g votes valid_now (plain_now votes) q c h in
         let l = after_confirmed c h in
-        ap is_reading (start_after g small t r.valid q c (until_now.done (start_heard (facts at).head_below (omega arith)) (omega arith)) (adjust_open r.valid q (facts at).head_below o)).reading_is
+        ap is_some (start_after g small t r.valid q c (until_now.done (start_heard (facts at).head_below (omega arith)) (omega arith)) (adjust_open r.valid q (facts at).head_below o)).reading_is
 
-    own_at : q ≡ 0 → OwnReading g s event → (c : ℕ) → held g votes (event ∷ s) q ≡ SomeNumber c → is_reading (vote_of (record_of g (event ∷ s) q) q) ≡ true
+    own_at : q ≡ 0 → OwnReading g s event → (c : ℕ) → held g votes (event ∷ s) q ≡ Some c → is_some (vote_of (record_of g (event ∷ s) q) q) ≡ true
     own_at z (same_reading hs vs) c h =
-        rw vs (subst (λ (x : ℕ). is_reading (vote_of (record_of g s x) x) ≡ true) (sym z) (r.own_vote c (ap (held g votes s) (sym z) ∙ sym hs ∙ h)))
+        rw vs (subst (λ (x : ℕ). is_some (vote_of (record_of g s x) x) ≡ true) (sym z) (r.own_vote c (ap (held g votes s) (sym z) ∙ sym hs ∙ h)))
     own_at z (new_reading w hn o vn) c h = rw vn (start_known w hn o)
 
-    own_now : (c : ℕ) → held g votes (event ∷ s) 0 ≡ SomeNumber c → is_reading (vote_of (record_of g (event ∷ s) 0) 0) ≡ true
+    own_now : (c : ℕ) → held g votes (event ∷ s) 0 ≡ Some c → is_some (vote_of (record_of g (event ∷ s) 0) 0) ≡ true
     own_now c h =
         cases (eqb q 0)
         (λ w. let z = eqb-true q 0 w in
-        subst (λ (x : ℕ). is_reading (vote_of (record_of g (event ∷ s) x) x) ≡ true) z (own_at z (own_reading_at g small t r.valid) c (ap (held g votes (event ∷ s)) z ∙ h)))
+        subst (λ (x : ℕ). is_some (vote_of (record_of g (event ∷ s) x) x) ≡ true) z (own_at z (own_reading_at g small t r.valid) c (ap (held g votes (event ∷ s)) z ∙ h)))
         (λ w. rw (record_other g event s 0 w) (r.own_vote c (sym (held_other g votes event s 0 w) ∙ h)))
 
     pub ran_more : Ran (event ∷ s)

@@ -1,6 +1,7 @@
 -- "The judge finds every premise kept": for every n, f, first real time and spacing that are not refused, the drafted sheet is accepted,
 -- keeps all eight premises, and leaves every head with a clock, with head 0 as candidate and as adjuster.
 -- Main results: `plain_round`, and `drafted` of what is left in a buffer.
+use Rattle.std.specs.Prelude.{Option, Some, None, unwrap_or}
 use mathlib.Core.Path.{◌≡◌, refl, sym, ◌∙◌, ap, ap₂, subst}
 use mathlib.Core.Bool.{Bool, true, not, ◌&&◌}
 use mathlib.Core.List.{List, [], ◌∷◌}
@@ -12,9 +13,10 @@ use lib.ListN.{length, get_or}
 use lib.Seq.{take_at}
 use borrow.Author.Tests.{ltb-true, ltb-false, lt-ltb, le-leb, eqb-true}
 use Rattle.protocol.specs.Base.{◌⇒◌, any, all}
-use Rattle.protocol.specs.Types.{OptNumber, NoNumber, SomeNumber, Setting, Entry, Stepped, Verdict, Accepted, Refused, Kept}
+use Rattle.protocol.specs.Types.{Setting, Entry, Stepped, Verdict, Accepted, Refused, Kept}
 use Rattle.protocol.specs.Words.{is_time, heads_fit, first_fields_fit, is_correct, setting_at, entry_count, entry_at, entry_fits_at}
-use Rattle.protocol.specs.Record.{Kind, votes, adjusts, number_or0}
+use Rattle.protocol.specs.declared.Kind.{Kind}
+use Rattle.protocol.specs.Record.{votes, adjusts}
 use Rattle.protocol.specs.Run.{Event, History, record_of, step_entry, ran, run_of, after_verdict, run_sheet}
 use Rattle.protocol.specs.Premises.{closing, each, before, correct_closes, votes_reached, adjusts_reached, premise5, premise7, first_broken, judge_run, judge}
 use Rattle.protocol.specs.Claim.{CorrectHead, ending_of}
@@ -179,12 +181,12 @@ module _ (n f first spacing : ℕ) (two : 2 ≤ n) (small : n ≤ 16) (few : 2 *
       ∙ rw (premise_1 n f first spacing two, premise_2 n f first spacing two, premise_3 n f first spacing two, premise_4 n f first spacing two, premise_5, premise_6 n f first spacing two, premise_7, premise_8 n f first spacing two) refl
 
   -- every head chooses head 0, in each phase
-  chooses_0 : (k : Kind) (q : ℕ) → number_or0 (held g k h q) ≡ 0
+  chooses_0 : (k : Kind) (q : ℕ) → unwrap_or (held g k h q) 0 ≡ 0
   chooses_0 k q = go (held g k h q) refl
     where
-      go : (m : OptNumber) → held g k h q ≡ m → number_or0 m ≡ 0
-      go NoNumber e = refl
-      go (SomeNumber c) e = held_0 g k has_run.valid (has_run.plain k) q c e
+      go : (m : Option ℕ) → held g k h q ≡ m → unwrap_or m 0 ≡ 0
+      go None e = refl
+      go (Some c) e = held_0 g k has_run.valid (has_run.plain k) q c e
 
   ends_plain : {q : ℕ} → q < n → EndsPlain (ending_of (record_of g h q))
   unfolding ending_of

@@ -2,6 +2,7 @@
 -- step is a fact about these two, so the ten actions are gone through here and seldom elsewhere.
 -- What document 02, No. 4, adds to a step, the test at its end, changes only the marks of closing.
 -- Main results: `effect_split`, `phase_after`, `named_after`, `allowed`, `act_split`, `answer_phase`, `taken_as_lem`.
+use Rattle.std.specs.Prelude.{Option, Some, None, is_some}
 use mathlib.Core.Path.{◌≡◌, refl, sym, ◌∙◌, ap, subst}
 use mathlib.Core.Bool.{Bool, true, false, cond, not, ◌&&◌, ◌||◌}
 use mathlib.Core.List.{List, [], ◌∷◌}
@@ -11,20 +12,21 @@ use lib.Dec.{eqb}
 use lib.ListN.{length, get_or, set, length-set, length-map, get_or-map}
 use lib.Seq.{get_or-set_same, get_or-set_other}
 use borrow.Author.Tests.{eqb-true, eqb-false}
-use Rattle.protocol.specs.Types.{Reading, OptReading, SomeReading, OptNumber, NoNumber, SomeNumber, Sender, Phase, HeadRecord, Stepped, Frame, NoFrame, Start, Vote, Adjust}
+use Rattle.protocol.specs.Types.{Reading, Sender, Phase, HeadRecord, Stepped, Frame, NoFrame, Start, Vote, Adjust}
 use Rattle.protocol.specs.Types.{Action, Look, StartSent, StartDelivered, StartConfirmed, VoteTurn, VoteDelivered, VoteClose, AdjustTurn, AdjustDelivered, AdjustClose}
 use Rattle.protocol.specs.Words.{has_sender}
-use Rattle.protocol.specs.Record.{is_number, reading, no_sender, kept_of, start_of, vote_of, same_number}
+use Rattle.protocol.specs.Record.{reading, no_sender, kept_of, start_of, vote_of, same_number}
 use Rattle.protocol.specs.Median.{median}
 use Rattle.protocol.specs.Step.{choose, early_if, with_start, with_vote_reading, with_candidate, with_last, with_senders, keep_vote, keep_adjust, kept_for, drop_others, accepted, silent, vote, adjust, may_lead, lead, vote_readings, may_adjust, propose, is_passed_over, outranks, candidate_after, delivered, effect, is_closed, all_spoken, is_under_way, may_close, close_early, concluded, is_tested, act, taken_as}
 use Rattle.protocol.specs.Run.{is_delivered_by, carried_reading}
-pub use Rattle.protocol.specs.Record.{Kind, votes, adjusts, phase_of, latest_of}
+pub use Rattle.protocol.specs.declared.Kind.{Kind}
+pub use Rattle.protocol.specs.Record.{votes, adjusts, phase_of, latest_of}
 pub use Rattle.protocol.specs.Step.{number}
 pub use Rattle.protocol.specs.Premises.{delivery, closing}
 use Rattle.protocol.proofs.Tests.{absurd_bool, cond_elim, not_true, and_left, and_right, or_left, or_right}
 
 -- what each phase has of a sender
-abbrev pub taken_of : Kind → Sender → OptNumber
+abbrev pub taken_of : Kind → Sender → Option ℕ
 taken_of votes k = k.voted
 taken_of adjusts k = k.adjusted
 
@@ -81,20 +83,20 @@ serial_of (Vote j c x) = j
 serial_of (Adjust j c x) = j
 
 -- what a frame names: the candidate or the adjuster
-abbrev pub named : Frame → OptNumber
-named NoFrame = NoNumber
-named Start = NoNumber
-named (Vote j c x) = SomeNumber c
-named (Adjust j c x) = SomeNumber c
+abbrev pub named : Frame → Option ℕ
+named NoFrame = None
+named Start = None
+named (Vote j c x) = Some c
+named (Adjust j c x) = Some c
 
 -- what it names if it is a frame of the phase under the serial
-abbrev pub named_by : Kind → ℕ → Frame → OptNumber
-named_by k j x = cond (is_delivered_by (delivery k) j x) (named x) NoNumber
+abbrev pub named_by : Kind → ℕ → Frame → Option ℕ
+named_by k j x = cond (is_delivered_by (delivery k) j x) (named x) None
 
 -- one more than the last serial taken, 0 where none was
-abbrev pub taken : OptNumber → ℕ
-taken NoNumber = 0
-taken (SomeNumber j) = suc j
+abbrev pub taken : Option ℕ → ℕ
+taken None = 0
+taken (Some j) = suc j
 
 -- FIRST PART: the record with the action's mark set and what is kept of a delivered frame
 
@@ -110,7 +112,7 @@ ignored r p (Adjust j c x) = passed_over adjusts r p j
 
 abbrev pub kept_after : HeadRecord → ℕ → Frame → Sender
 kept_after r p NoFrame = kept_of r p
-kept_after r p Start = with_start (kept_of r p) (SomeReading r.last)
+kept_after r p Start = with_start (kept_of r p) (Some r.last)
 kept_after r p (Vote j c x) = kept_for (candidate_after c r.vote.choice) (keep_vote (kept_of r p) j c x)
 kept_after r p (Adjust j c x) = keep_adjust (kept_of r p) j c
 
@@ -153,7 +155,7 @@ sending_of r Look = nothing
 sending_of r StartSent = start
 sending_of r (StartDelivered p) =
     cond r.adjust.closed nothing
-    (cond (may_lead (with_senders r (set r.senders p (with_start (kept_of r p) (SomeReading r.last))))) (voting r.own) nothing)
+    (cond (may_lead (with_senders r (set r.senders p (with_start (kept_of r p) (Some r.last))))) (voting r.own) nothing)
 sending_of r StartConfirmed = nothing
 sending_of r VoteTurn = cond (may_lead (prepared r VoteTurn)) (voting r.own) nothing
 sending_of r (VoteDelivered p k c x) = cond (passed_over votes r p k) nothing (cond (outranks c r.vote.choice) (voting c) nothing)
@@ -177,7 +179,7 @@ pub effect_split : (r : HeadRecord) (a : Action) → effect r a ≡ send (sendin
 unfolding effect lead propose delivered
 effect_split r Look = refl
 effect_split r StartSent = refl
-effect_split r (StartDelivered p) = split_delivery r.adjust.closed (may_lead _) r (set r.senders p (with_start (kept_of r p) (SomeReading r.last))) (voting r.own)
+effect_split r (StartDelivered p) = split_delivery r.adjust.closed (may_lead _) r (set r.senders p (with_start (kept_of r p) (Some r.last))) (voting r.own)
 effect_split r StartConfirmed = refl
 effect_split r VoteTurn = split_if (may_lead (prepared r VoteTurn)) (prepared r VoteTurn) (voting r.own)
 effect_split r (VoteDelivered p k c x) = split_delivery (passed_over votes r p k) (outranks c r.vote.choice) r _ (voting c)
@@ -187,20 +189,20 @@ effect_split r (AdjustDelivered p k c x) = split_delivery (passed_over adjusts r
 effect_split r AdjustClose = refl
 
 -- whom a sending of the phase names
-abbrev pub named_in : Kind → Sending → OptNumber
-named_in votes nothing = NoNumber
-named_in votes start = NoNumber
-named_in votes (voting c) = SomeNumber c
-named_in votes (adjusting c x) = NoNumber
-named_in adjusts nothing = NoNumber
-named_in adjusts start = NoNumber
-named_in adjusts (voting c) = NoNumber
-named_in adjusts (adjusting c x) = SomeNumber c
+abbrev pub named_in : Kind → Sending → Option ℕ
+named_in votes nothing = None
+named_in votes start = None
+named_in votes (voting c) = Some c
+named_in votes (adjusting c x) = None
+named_in adjusts nothing = None
+named_in adjusts start = None
+named_in adjusts (voting c) = None
+named_in adjusts (adjusting c x) = Some c
 
 -- a phase after a sending: unchanged, or with the choice named and one more frame sent
-abbrev pub chosen_by : OptNumber → Phase → Phase
-chosen_by NoNumber p = p
-chosen_by (SomeNumber c) p = choose c p
+abbrev pub chosen_by : Option ℕ → Phase → Phase
+chosen_by None p = p
+chosen_by (Some c) p = choose c p
 
 pub phase_after : (k : Kind) (x : Sending) (m : HeadRecord) → phase_of k (send x m).after ≡ chosen_by (named_in k x) (phase_of k m)
 unfolding vote adjust
@@ -231,18 +233,18 @@ phase_last votes r x = refl
 phase_last adjusts r x = refl
 
 -- a sending leaves the marks of a phase
-pub chosen_turn : (m : OptNumber) (p : Phase) → (chosen_by m p).turn ≡ p.turn
-chosen_turn NoNumber p = refl
-chosen_turn (SomeNumber c) p = refl
+pub chosen_turn : (m : Option ℕ) (p : Phase) → (chosen_by m p).turn ≡ p.turn
+chosen_turn None p = refl
+chosen_turn (Some c) p = refl
 
-pub chosen_closed : (m : OptNumber) (p : Phase) → (chosen_by m p).closed ≡ p.closed
-chosen_closed NoNumber p = refl
-chosen_closed (SomeNumber c) p = refl
+pub chosen_closed : (m : Option ℕ) (p : Phase) → (chosen_by m p).closed ≡ p.closed
+chosen_closed None p = refl
+chosen_closed (Some c) p = refl
 
 -- the frame of a sending: of the phase, its serial is the number sent before, and it names the choice
-abbrev pub named_under : OptNumber → ℕ → ℕ → OptNumber
-named_under NoNumber i j = NoNumber
-named_under (SomeNumber c) i j = cond (eqb i j) (SomeNumber c) NoNumber
+abbrev pub named_under : Option ℕ → ℕ → ℕ → Option ℕ
+named_under None i j = None
+named_under (Some c) i j = cond (eqb i j) (Some c) None
 
 pub named_after : (k : Kind) (x : Sending) (m : HeadRecord) (j : ℕ) → named_by k j (send x m).frame ≡ named_under (named_in k x) (phase_of k m).sent j
 unfolding vote adjust
@@ -257,8 +259,8 @@ named_after adjusts (adjusting c x) m j = refl
 
 -- why a head names c: it has no choice and its turn is taken, or it is delivered a frame that outranks its choice
 pub data Why (k : Kind) (r : HeadRecord) (a : Action) (c : ℕ) : Type 0 where
-  itself : c ≡ r.own → (phase_of k r).choice ≡ NoNumber → (phase_of k (prepared r a)).turn ≡ true → Why k r a c
-  told : number a ≡ delivery k → named (delivery_in a).frame ≡ SomeNumber c → Why k r a c
+  itself : c ≡ r.own → (phase_of k r).choice ≡ None → (phase_of k (prepared r a)).turn ≡ true → Why k r a c
+  told : number a ≡ delivery k → named (delivery_in a).frame ≡ Some c → Why k r a c
 
 pub record Naming (k : Kind) (r : HeadRecord) (a : Action) (c : ℕ) : Type 0 where
   pub is_open : (phase_of k r).closed ≡ false
@@ -268,7 +270,7 @@ pub record Naming (k : Kind) (r : HeadRecord) (a : Action) (c : ℕ) : Type 0 wh
 -- where an adjustment comes from: computed at the head's own turn, or carried by the frame that it passes on
 pub data Source (r : HeadRecord) (a : Action) (x : Reading) : Type 0 where
   computed : number a ≡ 7 → x ≡ reading (median (vote_readings (prepared r a) r.n)) → Source r a x
-  passed_on : number a ≡ 8 → carried_reading (delivery_in a).frame ≡ SomeReading x → Source r a x
+  passed_on : number a ≡ 8 → carried_reading (delivery_in a).frame ≡ Some x → Source r a x
 
 pub data Allowed (r : HeadRecord) (a : Action) : Sending → Type 0 where
   sends_nothing : Allowed r a nothing
@@ -276,9 +278,9 @@ pub data Allowed (r : HeadRecord) (a : Action) : Sending → Type 0 where
   sends_vote : {c : ℕ} → Naming votes r a c → Allowed r a (voting c)
   sends_adjust : {c : ℕ} {x : Reading} → Naming adjusts r a c → Source r a x → Allowed r a (adjusting c x)
 
-pub no_number : (m : OptNumber) → is_number m ≡ false → m ≡ NoNumber
-no_number NoNumber e = refl
-no_number (SomeNumber v) e = absurd_bool refl e
+pub no_number : (m : Option ℕ) → is_some m ≡ false → m ≡ None
+no_number None e = refl
+no_number (Some v) e = absurd_bool refl e
 
 -- the rule after 2 and 4, at the record that the action prepared
 allowed_lead : (r m : HeadRecord) (a : Action) → m.vote.closed ≡ r.vote.closed → m.vote.choice ≡ r.vote.choice → m.vote.turn ≡ (prepared r a).vote.turn
@@ -288,7 +290,7 @@ allowed_lead r m a cl ch tu =
     cond_elim (Allowed r a) (may_lead m)
     (λ t. let t2 = and_right m.vote.turn _ t in
     let t3 = and_right (not m.vote.closed) _ t2 in
-    let none : r.vote.choice ≡ NoNumber = sym ch ∙ no_number _ (not_true (and_left (not (is_number m.vote.choice)) _ t3)) in
+    let none : r.vote.choice ≡ None = sym ch ∙ no_number _ (not_true (and_left (not (is_some m.vote.choice)) _ t3)) in
     let unclosed = not_true (and_left (not m.vote.closed) _ t2) in
     sends_vote (record {
       is_open = sym cl ∙ unclosed;
@@ -298,7 +300,7 @@ allowed_lead r m a cl ch tu =
     (λ _. sends_nothing)
 
 -- a delivered frame, passed over or taken
-allowed_delivery : (k : Kind) (r : HeadRecord) (a : Action) (p j c : ℕ) (x : Sending) → number a ≡ delivery k → named (delivery_in a).frame ≡ SomeNumber c
+allowed_delivery : (k : Kind) (r : HeadRecord) (a : Action) (p j c : ℕ) (x : Sending) → number a ≡ delivery k → named (delivery_in a).frame ≡ Some c
     → (Naming k r a c → Allowed r a x) → Allowed r a (cond (passed_over k r p j) nothing (cond (outranks c (phase_of k r).choice) x nothing))
 allowed_delivery k r a p j c x nu na say =
     cond_elim (Allowed r a) (passed_over k r p j) (λ _. sends_nothing)
@@ -312,32 +314,32 @@ allowed r Look e = sends_nothing
 allowed r StartSent e = sends_start refl
 allowed r (StartDelivered p) e =
     cond_elim (Allowed r (StartDelivered p)) r.adjust.closed (λ _. sends_nothing)
-    (λ _. allowed_lead r (with_senders r (set r.senders p (with_start (kept_of r p) (SomeReading r.last)))) (StartDelivered p) refl refl refl)
+    (λ _. allowed_lead r (with_senders r (set r.senders p (with_start (kept_of r p) (Some r.last)))) (StartDelivered p) refl refl refl)
 allowed r StartConfirmed e = sends_nothing
 allowed r VoteTurn e = allowed_lead r (prepared r VoteTurn) VoteTurn refl refl refl
 allowed r (VoteDelivered p k c x) e = allowed_delivery votes r (VoteDelivered p k c x) p k c (voting c) refl refl sends_vote
 allowed r VoteClose e = sends_nothing
 allowed r AdjustTurn e =
     cond_elim (Allowed r AdjustTurn) (may_adjust (prepared r AdjustTurn))
-    (λ t. let none : r.adjust.choice ≡ NoNumber = no_number _ (not_true (and_left (not (is_number r.adjust.choice)) _ (and_right (is_number r.vote.choice) _ t))) in
+    (λ t. let none : r.adjust.choice ≡ None = no_number _ (not_true (and_left (not (is_some r.adjust.choice)) _ (and_right (is_some r.vote.choice) _ t))) in
     let unclosed = or_right r.adjust.turn _ (or_right (not r.vote.closed) _ e) in
     sends_adjust (record { is_open = unclosed; higher = rw none refl; why = itself refl none refl }) (computed refl refl))
     (λ _. sends_nothing)
 allowed r (AdjustDelivered p k c x) e = allowed_delivery adjusts r (AdjustDelivered p k c x) p k c (adjusting c x) refl refl (λ y. sends_adjust y (passed_on refl refl))
 allowed r AdjustClose e = sends_nothing
 
-pub none_is_some {ℓ} : {A : Type ℓ} {c : ℕ} → NoNumber ≡ SomeNumber c → A
+pub none_is_some {ℓ} : {A : Type ℓ} {c : ℕ} → None ≡ Some c → A
 none_is_some e = absurd (let z : ◌≡◌ {A = ℕ} 0 1 = cc in omega arith)
 
-pub some_number : (m : OptNumber) → is_number m ≡ true → (c : ℕ) × (m ≡ SomeNumber c)
-some_number NoNumber e = absurd_bool e refl
-some_number (SomeNumber c) e = (c, refl)
+pub some_number : (m : Option ℕ) → is_some m ≡ true → (c : ℕ) × (m ≡ Some c)
+some_number None e = absurd_bool e refl
+some_number (Some c) e = (c, refl)
 
-pub same_number_lem : {c v : ℕ} → SomeNumber c ≡ SomeNumber v → c ≡ v
+pub same_number_lem : {c v : ℕ} → Some c ≡ Some v → c ≡ v
 same_number_lem e = cc
 
 -- a head that names one in a phase has a reason
-pub naming : (k : Kind) {r : HeadRecord} {a : Action} {x : Sending} {c : ℕ} → Allowed r a x → named_in k x ≡ SomeNumber c → Naming k r a c
+pub naming : (k : Kind) {r : HeadRecord} {a : Action} {x : Sending} {c : ℕ} → Allowed r a x → named_in k x ≡ Some c → Naming k r a c
 naming votes sends_nothing e = none_is_some e
 naming votes (sends_start s) e = none_is_some e
 naming votes {r} {a} (sends_vote s) e = subst (Naming votes r a) (same_number_lem e) s
@@ -367,16 +369,16 @@ set_holds P (x ∷ l) (suc p) s h k zero = k zero
 set_holds P (x ∷ l) (suc p) s h k (suc q) = set_holds (λ j. P (suc j)) l p s h (λ j. k (suc j)) q
 
 -- once c is the candidate: what is kept of each sender, of which only the vote reading may be another
-pub kept_for_at : (c : ℕ) (m : HeadRecord) (q : ℕ) → kept_of (drop_others c m) q ≡ kept_for (SomeNumber c) (kept_of m q)
-kept_for_at c m q = get_or-map (kept_for (SomeNumber c)) m.senders q no_sender
+pub kept_for_at : (c : ℕ) (m : HeadRecord) (q : ℕ) → kept_of (drop_others c m) q ≡ kept_for (Some c) (kept_of m q)
+kept_for_at c m q = get_or-map (kept_for (Some c)) m.senders q no_sender
 
-pub kept_for_keeps : {X : Type 0} (g : Sender → X) → ((k : Sender) (x : OptReading) → g (with_vote_reading k x) ≡ g k) → (c : ℕ) (m : HeadRecord) (q : ℕ)
+pub kept_for_keeps : {X : Type 0} (g : Sender → X) → ((k : Sender) (x : Option Reading) → g (with_vote_reading k x) ≡ g k) → (c : ℕ) (m : HeadRecord) (q : ℕ)
     → g (kept_of (drop_others c m) q) ≡ g (kept_of m q)
 kept_for_keeps g e c m q = ap g (kept_for_at c m q) ∙ e (kept_of m q) _
 
 -- a part of what is kept by a sender that no sending changes: start reading and serials taken
 abbrev pub Unsaid : {X : Type 0} → (Sender → X) → Type 0
-Unsaid g = (k : Sender) (x : OptReading) (c a : OptNumber) → g (record { start = k.start; vote = x; voted = k.voted; adjusted = k.adjusted; candidate = c; adjuster = a }) ≡ g k
+Unsaid g = (k : Sender) (x : Option Reading) (c a : Option ℕ) → g (record { start = k.start; vote = x; voted = k.voted; adjusted = k.adjusted; candidate = c; adjuster = a }) ≡ g k
 
 -- a sending changes nothing of a sender but vote readings and the head's own latest vote or adjust
 pub send_keeps : {X : Type 0} (g : Sender → X) → Unsaid g → (x : Sending) (m : HeadRecord) (q : ℕ) → g (kept_of (send x m).after q) ≡ g (kept_of m q)
@@ -507,9 +509,9 @@ answer_early k r a =
     ap (λ (p : Phase). p.early) (answer_phase k r a)
     ∙ ap (λ (b : Bool). closes_early k r a || b) (chosen_early (named_in k (sending_of r a)) _ ∙ prepared_early k)
   where
-    chosen_early : (m : OptNumber) (p : Phase) → (chosen_by m p).early ≡ p.early
-    chosen_early NoNumber p = refl
-    chosen_early (SomeNumber c) p = refl
+    chosen_early : (m : Option ℕ) (p : Phase) → (chosen_by m p).early ≡ p.early
+    chosen_early None p = refl
+    chosen_early (Some c) p = refl
 
     prepared_early : (k : Kind) → (phase_of k (prepared r a)).early ≡ (phase_of k r).early
     prepared_early votes = refl
@@ -521,10 +523,10 @@ unfolding may_close
 early_spoken votes tested t e = and_right (is_under_way votes t.after) _ (and_right tested _ e)
 early_spoken adjusts tested t e = and_right (is_under_way adjusts (close_early votes tested t.after)) _ (and_right tested _ e)
 
-pub both_name : (m c : OptNumber) → same_number m c ≡ true → (v : ℕ) × (m ≡ SomeNumber v) × (c ≡ SomeNumber v)
-both_name NoNumber c e = absurd_bool e refl
-both_name (SomeNumber v) NoNumber e = absurd_bool e refl
-both_name (SomeNumber v) (SomeNumber w) e = (v, refl, ap (λ (i : ℕ). SomeNumber i) (sym (eqb-true v w e)))
+pub both_name : (m c : Option ℕ) → same_number m c ≡ true → (v : ℕ) × (m ≡ Some v) × (c ≡ Some v)
+both_name None c e = absurd_bool e refl
+both_name (Some v) None e = absurd_bool e refl
+both_name (Some v) (Some w) e = (v, refl, ap (λ (i : ℕ). Some i) (sym (eqb-true v w e)))
 
 -- an action is taken as itself, or as a look after the early close of its phase
 pub data TakenAs (r : HeadRecord) : Action → Action → Type 0 where
@@ -607,7 +609,7 @@ close_open adjusts r o = (or_right (not r.vote.closed) _ o, never (close_early v
 
 -- the serial last taken from the sender, after a frame that is not ignored
 pub taken_after : (k : Kind) (r : HeadRecord) (p : ℕ) (x : Frame)
-    → taken_of k (kept_after r p x) ≡ cond (eqb (delivered_by x) (delivery k)) (SomeNumber (serial_of x)) (taken_of k (kept_of r p))
+    → taken_of k (kept_after r p x) ≡ cond (eqb (delivered_by x) (delivery k)) (Some (serial_of x)) (taken_of k (kept_of r p))
 taken_after votes r p NoFrame = refl
 taken_after votes r p Start = refl
 taken_after votes r p (Vote j c x) = refl
@@ -629,8 +631,8 @@ latest_after adjusts r p Start = refl
 latest_after adjusts r p (Vote j c x) = refl
 latest_after adjusts r p (Adjust j c x) = refl
 
-pub latest_said : (k : Kind) (P : OptNumber → Type 0) (x : Sending) (m : HeadRecord) (p : ℕ) → P (latest_of k (kept_of m p))
-    → ((c : ℕ) → named_in k x ≡ SomeNumber c → p ≡ m.own → P (SomeNumber c)) → P (latest_of k (kept_of (send x m).after p))
+pub latest_said : (k : Kind) (P : Option ℕ → Type 0) (x : Sending) (m : HeadRecord) (p : ℕ) → P (latest_of k (kept_of m p))
+    → ((c : ℕ) → named_in k x ≡ Some c → p ≡ m.own → P (Some c)) → P (latest_of k (kept_of (send x m).after p))
 unfolding vote adjust
 latest_said k P nothing m p h say = h
 latest_said k P start m p h say = h
@@ -661,8 +663,8 @@ ignored_frame adjusts r p (Adjust j c x) e = refl
 sends_if : (k : Kind) (b o : Bool) (x : Sending) → b ≡ false → o ≡ true → named_in k (cond b nothing (cond o x nothing)) ≡ named_in k x
 sends_if k b o x t u = rw (t, u) refl
 
-pub delivered_sending : (k : Kind) (r : HeadRecord) (a : Action) (c : ℕ) → number a ≡ delivery k → named (delivery_in a).frame ≡ SomeNumber c
-    → passed_over k r (delivery_in a).sender (serial_of (delivery_in a).frame) ≡ false → outranks c (phase_of k r).choice ≡ true → named_in k (sending_of r a) ≡ SomeNumber c
+pub delivered_sending : (k : Kind) (r : HeadRecord) (a : Action) (c : ℕ) → number a ≡ delivery k → named (delivery_in a).frame ≡ Some c
+    → passed_over k r (delivery_in a).sender (serial_of (delivery_in a).frame) ≡ false → outranks c (phase_of k r).choice ≡ true → named_in k (sending_of r a) ≡ Some c
 delivered_sending k r Look c nu na t u = none_is_some na
 delivered_sending k r StartSent c nu na t u = none_is_some na
 delivered_sending k r (StartDelivered p) c nu na t u = none_is_some na
@@ -681,7 +683,7 @@ delivered_sending k r AdjustClose c nu na t u = none_is_some na
 -- A HEAD'S OWN VOTE READING
 
 -- of what a head keeps of itself, a delivery changes the start reading alone, since a vote or adjust from oneself is closed
-pub own_kept : {X : Type 0} (part : Sender → X) → ((k : Sender) (x : OptReading) → part (with_start k x) ≡ part k)
+pub own_kept : {X : Type 0} (part : Sender → X) → ((k : Sender) (x : Option Reading) → part (with_start k x) ≡ part k)
     → (r : HeadRecord) (a : Action) → is_closed r a ≡ false → part (kept_of (prepared r a) r.own) ≡ part (kept_of r r.own)
 unfolding is_closed
 own_kept part keeps r a e = go a e
@@ -703,7 +705,7 @@ own_kept part keeps r a e = go a e
     go AdjustClose e = refl
 
 -- only a vote changes it: it becomes the start reading of the candidate
-pub own_unsent : (x : Sending) (m : HeadRecord) → named_in votes x ≡ NoNumber → vote_of (send x m).after m.own ≡ vote_of m m.own
+pub own_unsent : (x : Sending) (m : HeadRecord) → named_in votes x ≡ None → vote_of (send x m).after m.own ≡ vote_of m m.own
 unfolding adjust
 own_unsent nothing m e = refl
 own_unsent start m e = refl
@@ -713,9 +715,9 @@ own_unsent (adjusting c x) m e = set_keeps (λ z. z.vote) m.senders m.own m.own 
 -- what a head keeps of itself after its vote
 pub own_voted : (c : ℕ) (m : HeadRecord) → m.own < length m.senders → kept_of (vote c m).after m.own ≡ with_candidate (with_vote_reading (kept_of m m.own) (start_of m c)) c
 unfolding vote
-own_voted c m b = get_or-set_same (drop_others c m).senders m.own _ no_sender (rw (length-map m.senders (kept_for (SomeNumber c))) b)
+own_voted c m b = get_or-set_same (drop_others c m).senders m.own _ no_sender (rw (length-map m.senders (kept_for (Some c))) b)
 
-pub own_sent : (x : Sending) (m : HeadRecord) (c : ℕ) → m.own < length m.senders → named_in votes x ≡ SomeNumber c → vote_of (send x m).after m.own ≡ start_of (send x m).after c
+pub own_sent : (x : Sending) (m : HeadRecord) (c : ℕ) → m.own < length m.senders → named_in votes x ≡ Some c → vote_of (send x m).after m.own ≡ start_of (send x m).after c
 unfolding vote
 own_sent nothing m c b e = none_is_some e
 own_sent start m c b e = none_is_some e

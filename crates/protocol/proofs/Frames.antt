@@ -6,6 +6,7 @@
 -- Main results, over the phase: `sent_itself`, `own_first`, `phase_frames`; of a head: `starts_counted`, `frames_counted` (what its record
 -- keeps of the frames that its steps sent is how many there were); over a round: `frames_sum`, `frames_published`, `frames_bound`; of a
 -- sheet's words: `sheet_published`, `sheet_frames`.
+use Rattle.std.specs.Prelude.{Option, Some, None}
 use mathlib.Core.Path.{◌≡◌, refl, sym, ◌∙◌, ap, subst}
 use mathlib.Core.Bool.{Bool, true, false, cond, ◌&&◌, ◌||◌}
 use mathlib.Core.List.{List, [], ◌∷◌}
@@ -16,7 +17,7 @@ use lib.Dec.{ltb, eqb}
 use lib.ListN.{get_or}
 use borrow.Author.Tests.{eqb-true, eqb-false, ne_eqb, ltb-true, lt-ltb}
 use Rattle.protocol.specs.Base.{count_below}
-use Rattle.protocol.specs.Types.{Reading, OptNumber, NoNumber, SomeNumber, Phase, HeadRecord, Setting, Action, Frame, NoFrame, Start, Vote, Adjust}
+use Rattle.protocol.specs.Types.{Reading, Phase, HeadRecord, Setting, Action, Frame, NoFrame, Start, Vote, Adjust}
 use Rattle.protocol.specs.Words.{setting_at}
 use Rattle.protocol.specs.Record.{fresh}
 use Rattle.protocol.specs.Step.{with_last, vote, adjust, is_closed}
@@ -102,13 +103,13 @@ pairs_below (suc n) r anti =
 
 -- WHO NAMES WHOM
 
-abbrev is_for : ℕ → OptNumber → Bool
-is_for c NoNumber = false
-is_for c (SomeNumber v) = eqb v c
+abbrev is_for : ℕ → Option ℕ → Bool
+is_for c None = false
+is_for c (Some v) = eqb v c
 
-for_it : (c : ℕ) (m : OptNumber) → is_for c m ≡ true → m ≡ SomeNumber c
-for_it c NoNumber e = absurd_bool e refl
-for_it c (SomeNumber v) e = ap (λ (w : ℕ). SomeNumber w) (eqb-true v c e)
+for_it : (c : ℕ) (m : Option ℕ) → is_for c m ≡ true → m ≡ Some c
+for_it c None e = absurd_bool e refl
+for_it c (Some v) e = ap (λ (w : ℕ). Some w) (eqb-true v c e)
 
 none_sent : (k : Kind) (n f q : ℕ) → (phase_of k (fresh n f q)).sent ≡ 0
 unfolding fresh
@@ -118,7 +119,7 @@ none_sent adjusts n f q = refl
 module _ (g : Setting) (k : Kind) where
   -- a frame of p names c
   abbrev pub SentFor : History → ℕ → ℕ → Type 0
-  SentFor s p c = (j : ℕ) × (names g k s p j ≡ SomeNumber c)
+  SentFor s p c = (j : ℕ) × (names g k s p j ≡ Some c)
 
   pub sent_stays : {s : History} {e : Event} → Taken g s e → Valid g s → (p c : ℕ) → SentFor s p c → SentFor (e ∷ s) p c
   sent_stays t v p c x = (x.0, frame_stays g k t v p x.0 c x.1)
@@ -161,16 +162,16 @@ module _ (g : Setting) (k : Kind) where
       go {s} {e} t v old z (reached a na) = sent_stays t v _ _ (old e.entry.sender z.choice (e.entry.serial, na))
 
   -- a head that has a choice does not begin to name itself
-  itself_before : {s : History} {e : Event} → Taken g s e → Valid g s → (p w : ℕ) → held g k s p ≡ SomeNumber w → SentFor (e ∷ s) p p → SentFor s p p
+  itself_before : {s : History} {e : Event} → Taken g s e → Valid g s → (p w : ℕ) → held g k s p ≡ Some w → SentFor (e ∷ s) p p → SentFor s p p
   itself_before {s} {e} t v p w =
-      by_head (λ p. held g k s p ≡ SomeNumber w → SentFor (e ∷ s) p p → SentFor s p p) e p
+      by_head (λ p. held g k s p ≡ Some w → SentFor (e ∷ s) p p → SentFor s p p) e p
       (λ h x. frame_new g k (λ j c. c ≡ e.entry.head → SentFor s e.entry.head e.entry.head) (turn g k t v)
-      (λ j c na eq. (j, na ∙ ap (λ (q : ℕ). SomeNumber q) eq)) (λ z eq. go h z.origin eq) x.0 e.entry.head x.1 refl)
+      (λ j c na eq. (j, na ∙ ap (λ (q : ℕ). Some q) eq)) (λ z eq. go h z.origin eq) x.0 e.entry.head x.1 refl)
       (λ d h x. (x.0, sym (names_other g k e s p x.0 d) ∙ x.1))
     where
-      go : {c : ℕ} → held g k s e.entry.head ≡ SomeNumber w → Origin g k s e c → c ≡ e.entry.head → SentFor s e.entry.head e.entry.head
+      go : {c : ℕ} → held g k s e.entry.head ≡ Some w → Origin g k s e c → c ≡ e.entry.head → SentFor s e.entry.head e.entry.head
       go h (own o none tu) eq = none_is_some (sym none ∙ h)
-      go h (reached a na) eq = sent_itself v e.entry.sender e.entry.head (e.entry.serial, na ∙ ap (λ (q : ℕ). SomeNumber q) eq)
+      go h (reached a na) eq = sent_itself v e.entry.sender e.entry.head (e.entry.serial, na ∙ ap (λ (q : ℕ). Some q) eq)
 
   -- a head that has named itself has named none above it
   pub own_first : {s : History} → Valid g s → (p c : ℕ) → SentFor s p c → SentFor s p p → c ≤ p

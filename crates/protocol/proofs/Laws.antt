@@ -2,6 +2,7 @@
 -- reading 0, a repeated start, what a vote carries, "no effect", marks set once, what outcome 2 asks, the last reading and
 -- refusals, and drift between any two entries; and what document 02, No. 4, says of a step: latest votes and adjusts, when a
 -- phase closes early and what that leaves without effect. Each law stands by itself, under the passage that it renders.
+use Rattle.std.specs.Prelude.{Option, Some, None, is_some, unwrap_or}
 use mathlib.Core.Path.{◌≡◌, refl, sym, ◌∙◌, ap, ap₂, subst}
 use mathlib.Core.Bool.{Bool, true, false, cond, not, ◌&&◌, ◌||◌}
 use mathlib.Core.List.{[], ◌∷◌}
@@ -14,11 +15,11 @@ use lib.ListN.{length, set}
 use lib.Seq.{get_or-set_same, get_or-set_other}
 use borrow.Author.Tests.{lt-ltb, le-ltb, leb-true, ltb-true, ltb-false, eqb-true, eq-eqb, ne_eqb}
 use Rattle.protocol.specs.Base.{◌⇒◌, any}
-use Rattle.protocol.specs.Types.{Reading, OptReading, NoReading, SomeReading, OptNumber, NoNumber, SomeNumber, Sender, Phase, HeadRecord, Setting, Entry}
+use Rattle.protocol.specs.Types.{Reading, Sender, Phase, HeadRecord, Setting, Entry}
 use Rattle.protocol.specs.Types.{Stepped, Vote, Accepted, Refused, Cause, Input}
 use Rattle.protocol.specs.Types.{Action, Look, StartSent, StartDelivered, StartConfirmed, VoteTurn, VoteDelivered, VoteClose, AdjustTurn, AdjustDelivered, AdjustClose}
 use Rattle.protocol.specs.Words.{is_correct}
-use Rattle.protocol.specs.Record.{is_reading, is_number, reading_or0, number_or0, reading, no_sender, kept_of, start_of, vote_of, start_of_choice, chosen_start, outcome, same_number, reading_counts, record_in_range}
+use Rattle.protocol.specs.Record.{reading_or0, reading, no_sender, kept_of, start_of, vote_of, start_of_choice, chosen_start, outcome, same_number, reading_counts, record_in_range}
 use Rattle.protocol.specs.Step.{with_last, keep_vote, keep_adjust, kept_for, drop_others, silent, refused, vote, adjust, starts_held, may_lead, lead, vote_readings, may_adjust, propose, is_above, is_passed_over, outranks, candidate_after, delivered, effect, is_closed, all_spoken, is_under_way, may_close, is_tested, act, taken_as, take_action, action_of, input_fits, step}
 use Rattle.protocol.specs.Run.{Event, History, record_of}
 use Rattle.protocol.specs.Results.{if_adopted, outcome_word, adjustment_word, start_word, frames_word, head_words}
@@ -32,18 +33,18 @@ use Rattle.protocol.proofs.Phases.{close_by_entry}
 use Rattle.protocol.proofs.Signed.{difference_of, difference_sub, difference_abs}
 
 -- serial k is above the last one taken, if any was
-abbrev pub Above : ℕ → OptNumber → Type 0
-Above k last = (j : ℕ) → last ≡ SomeNumber j → j < k
+abbrev pub Above : ℕ → Option ℕ → Type 0
+Above k last = (j : ℕ) → last ≡ Some j → j < k
 
-not_above : (k j : ℕ) → k ≤ j → is_above k (SomeNumber j) ≡ false
+not_above : (k j : ℕ) → k ≤ j → is_above k (Some j) ≡ false
 not_above k j h = le-ltb j k h
 
-is_above_lem : (k : ℕ) (last : OptNumber) → Above k last → is_above k last ≡ true
-is_above_lem k NoNumber h = refl
-is_above_lem k (SomeNumber j) h = lt-ltb j k (h j refl)
+is_above_lem : (k : ℕ) (last : Option ℕ) → Above k last → is_above k last ≡ true
+is_above_lem k None h = refl
+is_above_lem k (Some j) h = lt-ltb j k (h j refl)
 
 -- 5, and 8 "as 5": a vote or an adjust is delivered
-module _ (phase : Phase) (last : OptNumber) (k c : ℕ) (r taken : HeadRecord) (adopt : HeadRecord → Stepped) where
+module _ (phase : Phase) (last : Option ℕ) (k c : ℕ) (r taken : HeadRecord) (adopt : HeadRecord → Stepped) where
   -- "No effect after the vote close": the record as it was, and no frame
   pub no_effect_after_close : phase.closed ≡ true → delivered phase last k c r taken adopt ≡ silent r
   unfolding delivered
@@ -51,7 +52,7 @@ module _ (phase : Phase) (last : OptNumber) (k c : ℕ) (r taken : HeadRecord) (
       cond_elim (λ t. t ≡ silent r) (phase.closed || not (is_above k last)) (λ _. refl) (λ t. absurd_bool e (or_left phase.closed _ t))
 
   -- ".. or if the serial isn't above the last taken from that sender"
-  pub no_effect_of_old_serial : (j : ℕ) → last ≡ SomeNumber j → k ≤ j → delivered phase last k c r taken adopt ≡ silent r
+  pub no_effect_of_old_serial : (j : ℕ) → last ≡ Some j → k ≤ j → delivered phase last k c r taken adopt ≡ silent r
   unfolding delivered
   no_effect_of_old_serial j e h =
       cond_elim (λ t. t ≡ silent r) (phase.closed || not (is_above k last)) (λ _. refl)
@@ -67,22 +68,22 @@ module _ (phase : Phase) (last : OptNumber) (k c : ℕ) (r taken : HeadRecord) (
       (λ _. cond_elim P (outranks c phase.choice) f g)
 
   -- "a carried one of higher rank (lower number)": of the number held and the number carried, the lower is held after
-  pub lower_number_held : (phase_of : HeadRecord → Phase) → (phase_of taken).choice ≡ phase.choice → (phase_of (adopt taken).after).choice ≡ SomeNumber c
-      → phase.closed ≡ false → Above k last → (v : ℕ) → phase.choice ≡ SomeNumber v
-      → (phase_of (delivered phase last k c r taken adopt).after).choice ≡ SomeNumber (min c v)
+  pub lower_number_held : (phase_of : HeadRecord → Phase) → (phase_of taken).choice ≡ phase.choice → (phase_of (adopt taken).after).choice ≡ Some c
+      → phase.closed ≡ false → Above k last → (v : ℕ) → phase.choice ≡ Some v
+      → (phase_of (delivered phase last k c r taken adopt).after).choice ≡ Some (min c v)
   lower_number_held phase_of kept adopted o a v e =
-      taken_or_adopted (λ (t : Stepped). (phase_of t.after).choice ≡ SomeNumber (min c v)) o a
-      (λ t. let h = ltb-true c v (rw e at t) in adopted ∙ ap SomeNumber (omega arith))
-      (λ t. let h = ltb-false c v (rw e at t) in kept ∙ e ∙ ap SomeNumber (omega arith))
+      taken_or_adopted (λ (t : Stepped). (phase_of t.after).choice ≡ Some (min c v)) o a
+      (λ t. let h = ltb-true c v (rw e at t) in adopted ∙ ap Some (omega arith))
+      (λ t. let h = ltb-false c v (rw e at t) in kept ∙ e ∙ ap Some (omega arith))
 
 -- the same of the candidate after a vote, and of the adjuster after an adjust
-pub candidate_after_vote : (r : HeadRecord) (p k c : ℕ) (x : OptReading) → r.vote.closed ≡ false → Above k (kept_of r p).voted
-    → (v : ℕ) → r.vote.choice ≡ SomeNumber v → (effect r (VoteDelivered p k c x)).after.vote.choice ≡ SomeNumber (min c v)
+pub candidate_after_vote : (r : HeadRecord) (p k c : ℕ) (x : Option Reading) → r.vote.closed ≡ false → Above k (kept_of r p).voted
+    → (v : ℕ) → r.vote.choice ≡ Some v → (effect r (VoteDelivered p k c x)).after.vote.choice ≡ Some (min c v)
 unfolding effect vote
 candidate_after_vote r p k c x = lower_number_held r.vote (kept_of r p).voted k c r _ (vote c) (λ s. s.vote) refl refl
 
 pub adjuster_after_adjust : (r : HeadRecord) (p k a : ℕ) (x : Reading) → r.adjust.closed ≡ false → Above k (kept_of r p).adjusted
-    → (v : ℕ) → r.adjust.choice ≡ SomeNumber v → (effect r (AdjustDelivered p k a x)).after.adjust.choice ≡ SomeNumber (min a v)
+    → (v : ℕ) → r.adjust.choice ≡ Some v → (effect r (AdjustDelivered p k a x)).after.adjust.choice ≡ Some (min a v)
 unfolding effect adjust
 adjuster_after_adjust r p k a x = lower_number_held r.adjust (kept_of r p).adjusted k a r _ (adjust a x) (λ s. s.adjust) refl refl
 
@@ -97,7 +98,7 @@ lead_keeps_starts r p =
 pub leads_with_more_than_f : (r : HeadRecord) → may_lead r ≡ true → r.f < starts_held r
 unfolding may_lead
 leads_with_more_than_f r e =
-    let enough = and_right (not (is_number r.vote.choice)) _ (and_right (not r.vote.closed) _ (and_right r.vote.turn _ e)) in
+    let enough = and_right (not (is_some r.vote.choice)) _ (and_right (not r.vote.closed) _ (and_right r.vote.turn _ e)) in
     let le = leb-true (r.f + 1) (starts_held r) enough in
     omega arith
 
@@ -108,16 +109,16 @@ no_start_after_close r p e = cond_elim (λ t. t ≡ silent r) r.adjust.closed (�
 
 -- 2: "its start reading becomes this reading, again at each repeat": whatever was kept before
 pub start_replaced : (r : HeadRecord) (p : ℕ) → p < length r.senders → r.adjust.closed ≡ false
-    → start_of (effect r (StartDelivered p)).after p ≡ SomeReading r.last
+    → start_of (effect r (StartDelivered p)).after p ≡ Some r.last
 unfolding effect
 start_replaced r p h o =
-    cond_elim (λ (t : Stepped). start_of t.after p ≡ SomeReading r.last) r.adjust.closed (λ t. absurd_bool t o)
+    cond_elim (λ (t : Stepped). start_of t.after p ≡ Some r.last) r.adjust.closed (λ t. absurd_bool t o)
     (λ _. lead_keeps_starts _ p ∙ ap (λ (k : Sender). k.start) (get_or-set_same r.senders p _ no_sender h))
 
 -- "A reading of 0 is a reading": a start reading is held, whatever it is
 pub start_reading_counts : (r : HeadRecord) (p : ℕ) → p < length r.senders → r.adjust.closed ≡ false
-    → is_reading (start_of (effect r (StartDelivered p)).after p) ≡ true
-start_reading_counts r p h o = ap is_reading (start_replaced r p h o)
+    → is_some (start_of (effect r (StartDelivered p)).after p) ≡ true
+start_reading_counts r p h o = ap is_some (start_replaced r p h o)
 
 -- "A vote carries the candidate and h's own start reading of it, or the mark "none""
 pub vote_carries_start : (c : ℕ) (r : HeadRecord) → (vote c r).frame ≡ Vote r.vote.sent c (start_of r c)
@@ -129,40 +130,40 @@ pub own_vote_reading : (c : ℕ) (r : HeadRecord) → r.own < length r.senders �
 own_vote_reading c r h = ap (λ (k : Sender). k.vote) (own_voted c r h)
 
 -- document 02, No. 4, "its own .. latest vote": the one that it sends
-pub own_latest_vote : (c : ℕ) (r : HeadRecord) → r.own < length r.senders → (kept_of (vote c r).after r.own).candidate ≡ SomeNumber c
+pub own_latest_vote : (c : ℕ) (r : HeadRecord) → r.own < length r.senders → (kept_of (vote c r).after r.own).candidate ≡ Some c
 own_latest_vote c r h = ap (λ (k : Sender). k.candidate) (own_voted c r h)
 
-pub own_latest_adjust : (a : ℕ) (x : Reading) (r : HeadRecord) → r.own < length r.senders → (kept_of (adjust a x r).after r.own).adjuster ≡ SomeNumber a
+pub own_latest_adjust : (a : ℕ) (x : Reading) (r : HeadRecord) → r.own < length r.senders → (kept_of (adjust a x r).after r.own).adjuster ≡ Some a
 unfolding adjust
 own_latest_adjust a x r h = ap (λ (k : Sender). k.adjuster) (get_or-set_same r.senders r.own _ no_sender h)
 
 -- "A reading of 0 is a reading": every vote reading held counts in the median, and "none" does not
-pub vote_reading_counts : (r : HeadRecord) (p : ℕ) (x : Reading) → vote_of r p ≡ SomeReading x → vote_readings r (suc p) ≡ x.0 ∷ vote_readings r p
+pub vote_reading_counts : (r : HeadRecord) (p : ℕ) (x : Reading) → vote_of r p ≡ Some x → vote_readings r (suc p) ≡ x.0 ∷ vote_readings r p
 unfolding vote_readings
 vote_reading_counts r p x e = rw e refl
 
-pub none_does_not_count : (r : HeadRecord) (p : ℕ) → vote_of r p ≡ NoReading → vote_readings r (suc p) ≡ vote_readings r p
+pub none_does_not_count : (r : HeadRecord) (p : ℕ) → vote_of r p ≡ None → vote_readings r (suc p) ≡ vote_readings r p
 unfolding vote_readings
 none_does_not_count r p e = rw e refl
 
 -- document 02, No. 5: "changing candidate drops the others": of other senders' readings those are kept whose latest vote names the new one
-kept_of_others : (c : ℕ) (r : HeadRecord) (p : ℕ) → p ≢ r.own → kept_of (vote c r).after p ≡ kept_for (SomeNumber c) (kept_of r p)
+kept_of_others : (c : ℕ) (r : HeadRecord) (p : ℕ) → p ≢ r.own → kept_of (vote c r).after p ≡ kept_for (Some c) (kept_of r p)
 unfolding vote
 kept_of_others c r p d = get_or-set_other (drop_others c r).senders r.own p _ no_sender d ∙ kept_for_at c r p
 
-kept_of_voter : (c : ℕ) (k : Sender) → k.candidate ≡ SomeNumber c → kept_for (SomeNumber c) k ≡ k
+kept_of_voter : (c : ℕ) (k : Sender) → k.candidate ≡ Some c → kept_for (Some c) k ≡ k
 kept_of_voter c k e = rw (e, eqb_same c) refl
 
-none_left : (v : OptNumber) (k : Sender) → k.candidate ≢ v → (kept_for v k).vote ≡ NoReading
+none_left : (v : Option ℕ) (k : Sender) → k.candidate ≢ v → (kept_for v k).vote ≡ None
 none_left v k n =
-    cond_elim (λ (x : OptReading). x ≡ NoReading) (same_number k.candidate v)
+    cond_elim (λ (x : Option Reading). x ≡ None) (same_number k.candidate v)
     (λ t. let b = both_name k.candidate v t in absurd (n (b.1 ∙ sym b.2))) (λ _. refl)
 
-pub reading_for_candidate_kept : (c : ℕ) (r : HeadRecord) (p : ℕ) → p ≢ r.own → (kept_of r p).candidate ≡ SomeNumber c → vote_of (vote c r).after p ≡ vote_of r p
+pub reading_for_candidate_kept : (c : ℕ) (r : HeadRecord) (p : ℕ) → p ≢ r.own → (kept_of r p).candidate ≡ Some c → vote_of (vote c r).after p ≡ vote_of r p
 reading_for_candidate_kept c r p d e = ap (λ (k : Sender). k.vote) (kept_of_others c r p d ∙ kept_of_voter c (kept_of r p) e)
 
-pub reading_for_another_dropped : (c : ℕ) (r : HeadRecord) (p : ℕ) → p ≢ r.own → (kept_of r p).candidate ≢ SomeNumber c → vote_of (vote c r).after p ≡ NoReading
-reading_for_another_dropped c r p d n = ap (λ (k : Sender). k.vote) (kept_of_others c r p d) ∙ none_left (SomeNumber c) (kept_of r p) n
+pub reading_for_another_dropped : (c : ℕ) (r : HeadRecord) (p : ℕ) → p ≢ r.own → (kept_of r p).candidate ≢ Some c → vote_of (vote c r).after p ≡ None
+reading_for_another_dropped c r p d n = ap (λ (k : Sender). k.vote) (kept_of_others c r p d) ∙ none_left (Some c) (kept_of r p) n
 
 -- "another sender's vote reading": the head's own is not under the test of the ranges
 pub own_reading_untested : (r : HeadRecord) → reading_counts r r.own ≡ true
@@ -170,12 +171,12 @@ unfolding reading_counts
 own_reading_untested r = or_first (eqb r.own r.own) _ (eqb_same r.own)
 
 -- a vote is delivered from another head p, with a serial above the last one taken, before the vote close
-module _ (r : HeadRecord) (p k c : ℕ) (x : OptReading) (h : p < length r.senders) (d : p ≢ r.own) (o : r.vote.closed ≡ false) (a : Above k (kept_of r p).voted) where
+module _ (r : HeadRecord) (p k c : ℕ) (x : Option Reading) (h : p < length r.senders) (d : p ≢ r.own) (o : r.vote.closed ≡ false) (a : Above k (kept_of r p).voted) where
   vote_taken_lem : kept_of (effect r (VoteDelivered p k c x)).after p ≡ kept_for (candidate_after c r.vote.choice) (keep_vote (kept_of r p) k c x)
   unfolding effect
   vote_taken_lem =
       taken_or_adopted r.vote (kept_of r p).voted k c r _ (vote c) (λ (t : Stepped). kept_of t.after p ≡ kept_for (candidate_after c r.vote.choice) (keep_vote (kept_of r p) k c x)) o a
-      (λ _. kept_of_others c _ p d ∙ ap (kept_for (SomeNumber c)) (get_or-set_same r.senders p _ no_sender h) ∙ kept_of_voter c _ refl) (λ _. get_or-set_same r.senders p _ no_sender h)
+      (λ _. kept_of_others c _ p d ∙ ap (kept_for (Some c)) (get_or-set_same r.senders p _ no_sender h) ∙ kept_of_voter c _ refl) (λ _. get_or-set_same r.senders p _ no_sender h)
 
   candidate_after_lem : (effect r (VoteDelivered p k c x)).after.vote.choice ≡ candidate_after c r.vote.choice
   unfolding effect vote
@@ -184,24 +185,24 @@ module _ (r : HeadRecord) (p k c : ℕ) (x : OptReading) (h : p < length r.sende
       (λ t. rw t refl) (λ t. rw t refl)
 
   -- 5: "the carried reading (or none) becomes the sender's vote reading", if the head then has the candidate that is named
-  pub vote_reading_taken : (effect r (VoteDelivered p k c x)).after.vote.choice ≡ SomeNumber c → vote_of (effect r (VoteDelivered p k c x)).after p ≡ x
+  pub vote_reading_taken : (effect r (VoteDelivered p k c x)).after.vote.choice ≡ Some c → vote_of (effect r (VoteDelivered p k c x)).after p ≡ x
   vote_reading_taken e = ap (λ (s : Sender). s.vote) vote_taken_lem ∙ rw (sym candidate_after_lem ∙ e, eqb_same c) refl
 
-  pub carried_reading_counts : (effect r (VoteDelivered p k c x)).after.vote.choice ≡ SomeNumber c → (y : Reading) → x ≡ SomeReading y
+  pub carried_reading_counts : (effect r (VoteDelivered p k c x)).after.vote.choice ≡ Some c → (y : Reading) → x ≡ Some y
       → vote_readings (effect r (VoteDelivered p k c x)).after (suc p) ≡ y.0 ∷ vote_readings (effect r (VoteDelivered p k c x)).after p
   carried_reading_counts f y e = vote_reading_counts (effect r (VoteDelivered p k c x)).after p y (vote_reading_taken f ∙ e)
 
   -- document 02, No. 5: "a vote taken that names another candidate leaves its sender with none"
-  pub another_candidate_leaves_none : (effect r (VoteDelivered p k c x)).after.vote.choice ≢ SomeNumber c → vote_of (effect r (VoteDelivered p k c x)).after p ≡ NoReading
+  pub another_candidate_leaves_none : (effect r (VoteDelivered p k c x)).after.vote.choice ≢ Some c → vote_of (effect r (VoteDelivered p k c x)).after p ≡ None
   another_candidate_leaves_none n =
       ap (λ (s : Sender). s.vote) vote_taken_lem ∙ none_left (candidate_after c r.vote.choice) (keep_vote (kept_of r p) k c x) (λ e. n (candidate_after_lem ∙ sym e))
 
   -- document 02, No. 4: it is the "sender's latest vote"
-  pub latest_vote_taken : (kept_of (effect r (VoteDelivered p k c x)).after p).candidate ≡ SomeNumber c
+  pub latest_vote_taken : (kept_of (effect r (VoteDelivered p k c x)).after p).candidate ≡ Some c
   latest_vote_taken = ap (λ (s : Sender). s.candidate) vote_taken_lem
 
   -- its serial is then "the last taken from that sender", so a repeat has no effect
-  pub vote_serial_taken : (kept_of (effect r (VoteDelivered p k c x)).after p).voted ≡ SomeNumber k
+  pub vote_serial_taken : (kept_of (effect r (VoteDelivered p k c x)).after p).voted ≡ Some k
   vote_serial_taken = ap (λ (s : Sender). s.voted) vote_taken_lem
 
 -- 8: "as 5, with adjuster and adjustment"
@@ -213,14 +214,14 @@ module _ (r : HeadRecord) (p k a : ℕ) (x : Reading) (h : p < length r.senders)
       taken_or_adopted r.adjust (kept_of r p).adjusted k a r _ (adjust a x) (λ (t : Stepped). kept_of t.after p ≡ keep_adjust (kept_of r p) k a) o b
       (λ _. get_or-set_other (set r.senders p _) r.own p _ no_sender d ∙ stored) (λ _. stored)
 
-  pub latest_adjust_taken : (kept_of (effect r (AdjustDelivered p k a x)).after p).adjuster ≡ SomeNumber a
+  pub latest_adjust_taken : (kept_of (effect r (AdjustDelivered p k a x)).after p).adjuster ≡ Some a
   latest_adjust_taken = ap (λ (s : Sender). s.adjuster) adjust_taken_lem
 
-  pub adjust_serial_taken : (kept_of (effect r (AdjustDelivered p k a x)).after p).adjusted ≡ SomeNumber k
+  pub adjust_serial_taken : (kept_of (effect r (AdjustDelivered p k a x)).after p).adjusted ≡ Some k
   adjust_serial_taken = ap (λ (s : Sender). s.adjusted) adjust_taken_lem
 
 -- "Closed if sender is h"
-pub own_frame_closed : (r : HeadRecord) (k c : ℕ) (x : OptReading) (y : Reading)
+pub own_frame_closed : (r : HeadRecord) (k c : ℕ) (x : Option Reading) (y : Reading)
     → (is_closed r (VoteDelivered r.own k c x) ≡ true) × (is_closed r (AdjustDelivered r.own k c y) ≡ true)
 unfolding is_closed
 own_frame_closed r k c x y = rw (eqb_same r.own) (refl, refl)
@@ -255,27 +256,27 @@ marks_set_once r =
     }
 
 -- 9: "Outcome 2 (adopted) if h has a candidate, its start reading and an adjuster; else 1"
-pub no_candidate_no_start : (r : HeadRecord) → r.vote.choice ≡ NoNumber → chosen_start r ≡ NoReading
+pub no_candidate_no_start : (r : HeadRecord) → r.vote.choice ≡ None → chosen_start r ≡ None
 unfolding chosen_start
 no_candidate_no_start r e = ap (start_of_choice r) e
 
-outcome_1 : (r : HeadRecord) → r.adjust.closed ≡ true → (is_reading (chosen_start r) && is_number r.adjust.choice) ≢ true → outcome r ≡ 1
+outcome_1 : (r : HeadRecord) → r.adjust.closed ≡ true → (is_some (chosen_start r) && is_some r.adjust.choice) ≢ true → outcome r ≡ 1
 unfolding outcome
 outcome_1 r c lacks =
     cond_elim (λ o. o ≡ 1) r.adjust.closed
-    (λ _. cond_elim (λ o. o ≡ 1) (is_reading (chosen_start r) && is_number r.adjust.choice) (λ t. absurd (lacks t)) (λ _. refl)) (λ t. absurd_bool c t)
+    (λ _. cond_elim (λ o. o ≡ 1) (is_some (chosen_start r) && is_some r.adjust.choice) (λ t. absurd (lacks t)) (λ _. refl)) (λ t. absurd_bool c t)
 
-pub outcome_1_without_start : (r : HeadRecord) → r.adjust.closed ≡ true → chosen_start r ≡ NoReading → outcome r ≡ 1
-outcome_1_without_start r c e = outcome_1 r c (λ t. absurd_bool (and_left (is_reading (chosen_start r)) _ t) (ap is_reading e))
+pub outcome_1_without_start : (r : HeadRecord) → r.adjust.closed ≡ true → chosen_start r ≡ None → outcome r ≡ 1
+outcome_1_without_start r c e = outcome_1 r c (λ t. absurd_bool (and_left (is_some (chosen_start r)) _ t) (ap is_some e))
 
-pub outcome_1_without_adjuster : (r : HeadRecord) → r.adjust.closed ≡ true → r.adjust.choice ≡ NoNumber → outcome r ≡ 1
-outcome_1_without_adjuster r c e = outcome_1 r c (λ t. absurd_bool (and_right (is_reading (chosen_start r)) _ t) (ap is_number e))
+pub outcome_1_without_adjuster : (r : HeadRecord) → r.adjust.closed ≡ true → r.adjust.choice ≡ None → outcome r ≡ 1
+outcome_1_without_adjuster r c e = outcome_1 r c (λ t. absurd_bool (and_right (is_some (chosen_start r)) _ t) (ap is_some e))
 
 -- "All fields but kind, outcome and head are zero unless the outcome is 2", but those of the fourth word, "set whatever the outcome"
 pub words_unless_adopted : (q : ℕ) (r : HeadRecord) → outcome r ≢ 2
     → head_words q r ≡ (6 * 2 ^ 28 + outcome r * 2 ^ 24 + q * 2 ^ 20) ∷ 7 * 2 ^ 28 ∷ 8 * 2 ^ 28 ∷ frames_word r ∷ []
 unfolding outcome_word adjustment_word start_word
-words_unless_adopted q r n = ap₂ ◌∷◌ (omega (arith, zero_field (number_or0 r.vote.choice), zero_field (number_or0 r.adjust.choice)))
+words_unless_adopted q r n = ap₂ ◌∷◌ (omega (arith, zero_field (unwrap_or r.vote.choice 0), zero_field (unwrap_or r.adjust.choice 0)))
     (ap₂ ◌∷◌ (omega (arith, zero_field r.adjustment.0)) (ap₂ ◌∷◌ (omega (arith, zero_field (reading_or0 (chosen_start r)))) refl))
   where
     zero_field : (x : ℕ) → if_adopted r x ≡ 0
@@ -322,24 +323,24 @@ step_answers r i =
 -- "as soon as its own and every other head's latest vote name its candidate, and the adjust phase likewise with the adjuster";
 -- ""all" means all n": a phase under way closes exactly then
 module _ (k : Kind) (r : HeadRecord) where
-  abbrev choice : OptNumber
+  abbrev choice : Option ℕ
   choice = (phase_of k r).choice
 
-  abbrev latest : ℕ → OptNumber
+  abbrev latest : ℕ → Option ℕ
   latest q = latest_of k (kept_of r q)
 
-  pub closes_when_all_have_spoken : (c : ℕ) → is_under_way k r ≡ true → choice ≡ SomeNumber c → ((q : ℕ) → q < r.n → latest q ≡ SomeNumber c) → may_close k r ≡ true
+  pub closes_when_all_have_spoken : (c : ℕ) → is_under_way k r ≡ true → choice ≡ Some c → ((q : ℕ) → q < r.n → latest q ≡ Some c) → may_close k r ≡ true
   unfolding may_close
   closes_when_all_have_spoken c o ch all =
       and_both o (below_all r.n (λ q. same_number (latest q) choice) (λ q l. ap₂ same_number (all q l) ch ∙ eqb_same c))
 
-  pub closes_only_when_all_have_spoken : may_close k r ≡ true → (q : ℕ) → q < r.n → (c : ℕ) × (latest q ≡ SomeNumber c) × (choice ≡ SomeNumber c)
+  pub closes_only_when_all_have_spoken : may_close k r ≡ true → (q : ℕ) → q < r.n → (c : ℕ) × (latest q ≡ Some c) × (choice ≡ Some c)
   unfolding may_close
   closes_only_when_all_have_spoken e q l =
       both_name (latest q) choice (all_below_lem r.n (λ q. same_number (latest q) choice) (and_right (is_under_way k r) _ e) q l)
 
   -- no candidate, or no adjuster: never
-  pub no_early_close_without_choice : 0 < r.n → choice ≡ NoNumber → may_close k r ≡ false
+  pub no_early_close_without_choice : 0 < r.n → choice ≡ None → may_close k r ≡ false
   no_early_close_without_choice l e = cases (may_close k r) (λ t. none_is_some (sym e ∙ (closes_only_when_all_have_spoken t 0 l).2)) (λ t. t)
 
 -- "but never before its vote close"
@@ -367,10 +368,10 @@ module _ (r : HeadRecord) (a : Action) (tested : is_tested r a ≡ true) where
 pub data WithoutEffect (r : HeadRecord) : Action → Type 0 where
   look : WithoutEffect r Look
   late_start : {p : ℕ} → r.adjust.closed ≡ true → WithoutEffect r (StartDelivered p)
-  late_vote : {p k c : ℕ} {x : OptReading} → r.vote.closed ≡ true → WithoutEffect r (VoteDelivered p k c x)
-  old_vote : {p k c : ℕ} {x : OptReading} (j : ℕ) → (kept_of r p).voted ≡ SomeNumber j → k ≤ j → WithoutEffect r (VoteDelivered p k c x)
+  late_vote : {p k c : ℕ} {x : Option Reading} → r.vote.closed ≡ true → WithoutEffect r (VoteDelivered p k c x)
+  old_vote : {p k c : ℕ} {x : Option Reading} (j : ℕ) → (kept_of r p).voted ≡ Some j → k ≤ j → WithoutEffect r (VoteDelivered p k c x)
   late_adjust : {p k a : ℕ} {x : Reading} → r.adjust.closed ≡ true → WithoutEffect r (AdjustDelivered p k a x)
-  old_adjust : {p k a : ℕ} {x : Reading} (j : ℕ) → (kept_of r p).adjusted ≡ SomeNumber j → k ≤ j → WithoutEffect r (AdjustDelivered p k a x)
+  old_adjust : {p k a : ℕ} {x : Reading} (j : ℕ) → (kept_of r p).adjusted ≡ Some j → k ≤ j → WithoutEffect r (AdjustDelivered p k a x)
 
 pub untested : {r : HeadRecord} {a : Action} → WithoutEffect r a → is_tested r a ≡ false
 unfolding is_tested
@@ -381,10 +382,10 @@ untested {r} (old_vote {k = k} j e h) = rw (e, not_above k j h) (not_is_false (o
 untested (late_adjust e) = rw e refl
 untested {r} (old_adjust {k = k} j e h) = rw (e, not_above k j h) (not_is_false (or_second r.adjust.closed true refl))
 
-passed_over : {P : Type 0} (phase : Phase) (last : OptNumber) (k : ℕ) → not (is_passed_over phase last k) ≡ false
-    → (phase.closed ≡ true → P) → ((j : ℕ) → last ≡ SomeNumber j → k ≤ j → P) → P
-passed_over phase NoNumber k e late old = or_cases phase.closed _ (not_false e) late (λ u. absurd_bool u refl)
-passed_over phase (SomeNumber j) k e late old = or_cases phase.closed _ (not_false e) late (λ u. old j refl (ltb-false j k (not_true u)))
+passed_over : {P : Type 0} (phase : Phase) (last : Option ℕ) (k : ℕ) → not (is_passed_over phase last k) ≡ false
+    → (phase.closed ≡ true → P) → ((j : ℕ) → last ≡ Some j → k ≤ j → P) → P
+passed_over phase None k e late old = or_cases phase.closed _ (not_false e) late (λ u. absurd_bool u refl)
+passed_over phase (Some j) k e late old = or_cases phase.closed _ (not_false e) late (λ u. old j refl (ltb-false j k (not_true u)))
 
 pub tested_unless_without_effect : (r : HeadRecord) (a : Action) → is_tested r a ≡ false → WithoutEffect r a
 unfolding is_tested
@@ -413,8 +414,8 @@ without_effect {r} {a} w = rw (untested w) (go w)
 
 -- "each sender's latest vote and adjust (none, or below n)", "a mark for each phase closed early, set only with that phase's close mark"
 module _ (k : Kind) (r : HeadRecord) (fits : record_in_range r ≡ true) where
-  pub latest_below_n : (p : ℕ) → p < r.n → (c : ℕ) → latest_of k (kept_of r p) ≡ SomeNumber c → c < r.n
-  latest_below_n p l c e = subst (λ (m : OptNumber). number_or0 m < r.n) e ((((in_range fits).kept p).below l).latest k)
+  pub latest_below_n : (p : ℕ) → p < r.n → (c : ℕ) → latest_of k (kept_of r p) ≡ Some c → c < r.n
+  latest_below_n p l c e = subst (λ (m : Option ℕ). unwrap_or m 0 < r.n) e ((((in_range fits).kept p).below l).latest k)
 
   pub early_only_with_close_mark : (phase_of k r).early ≡ true → (phase_of k r).closed ≡ true
   early_only_with_close_mark = (in_range fits).early k

@@ -3,6 +3,7 @@
 -- the receiver: its choice is at most what that frame named. Two heads that took each other's last frame therefore agree.
 -- Main results, over the phase: `close_by_entry`, `took_close`, `over_keeps`, `chosen_at`, `frame_stays`, `last_frame`,
 -- `delivered_choice`, `agree`.
+use Rattle.std.specs.Prelude.{Option, Some, None}
 use mathlib.Core.Path.{◌≡◌, refl, sym, ◌∙◌, ap, subst}
 use mathlib.Core.Bool.{Bool, true, false, cond, not, ◌&&◌, ◌||◌}
 use mathlib.Core.List.{◌∷◌}
@@ -13,7 +14,7 @@ use lib.Dec.{eqb}
 use lib.ListN.{get_or, replicate}
 use borrow.Author.Tests.{eqb-true, eq-eqb, ltb-true, ltb-false}
 use Rattle.protocol.specs.Base.{any}
-use Rattle.protocol.specs.Types.{OptNumber, NoNumber, SomeNumber, Sender, Phase, HeadRecord, Setting, Action, Frame, NoFrame, Start, Vote, Adjust}
+use Rattle.protocol.specs.Types.{Sender, Phase, HeadRecord, Setting, Action, Frame, NoFrame, Start, Vote, Adjust}
 use Rattle.protocol.specs.Words.{has_sender, is_correct}
 use Rattle.protocol.specs.Record.{no_sender, kept_of, fresh}
 use Rattle.protocol.specs.Step.{early_if, is_above, outranks, is_closed}
@@ -26,13 +27,13 @@ use Rattle.protocol.proofs.Effects.{Kind, votes, adjusts, phase_of, taken_of, de
 use Rattle.protocol.proofs.Valid.{base_of, Taken, Valid, start, more, frame_fits, record_at, record_other, by_head, delivery_at, is_delivery, delivers, of_effect, fixed, closed_took, kept_next, kept_at}
 
 -- the first of two that is there
-abbrev pub or_number : OptNumber → OptNumber → OptNumber
-or_number NoNumber b = b
-or_number (SomeNumber c) b = SomeNumber c
+abbrev pub or_number : Option ℕ → Option ℕ → Option ℕ
+or_number None b = b
+or_number (Some c) b = Some c
 
-or_none : (m : OptNumber) → or_number m NoNumber ≡ m
-or_none NoNumber = refl
-or_none (SomeNumber c) = refl
+or_none : (m : Option ℕ) → or_number m None ≡ m
+or_none None = refl
+or_none (Some c) = refl
 
 -- a start is no frame of either phase
 no_start : (k : Kind) (j : ℕ) → is_delivered_by (delivery k) j Start ≡ false
@@ -45,7 +46,7 @@ named_or k j Start y f = absurd_bool (f refl) (no_start k j)
 named_or k j (Vote i c x) y f = refl
 named_or k j (Adjust i c x) y f = refl
 
-named_if : (a b : Bool) (x : Frame) → named (cond (a && b) x NoFrame) ≡ cond a (cond b (named x) NoNumber) NoNumber
+named_if : (a b : Bool) (x : Frame) → named (cond (a && b) x NoFrame) ≡ cond a (cond b (named x) None) None
 named_if true true x = refl
 named_if true false x = refl
 named_if false b x = refl
@@ -60,13 +61,13 @@ has_sender_lem : (k : Kind) → has_sender (delivery k) ≡ true
 has_sender_lem votes = refl
 has_sender_lem adjusts = refl
 
-above_taken : (j : ℕ) (m : OptNumber) → is_above j m ≡ true → taken m ≤ j
-above_taken j NoNumber e = omega arith
-above_taken j (SomeNumber i) e = ltb-true i j e
+above_taken : (j : ℕ) (m : Option ℕ) → is_above j m ≡ true → taken m ≤ j
+above_taken j None e = omega arith
+above_taken j (Some i) e = ltb-true i j e
 
-below_taken : (j : ℕ) (m : OptNumber) → is_above j m ≡ false → j < taken m
-below_taken j NoNumber e = absurd_bool refl e
-below_taken j (SomeNumber i) e = let z = ltb-false i j e in omega arith
+below_taken : (j : ℕ) (m : Option ℕ) → is_above j m ≡ false → j < taken m
+below_taken j None e = absurd_bool refl e
+below_taken j (Some i) e = let z = ltb-false i j e in omega arith
 
 suc_of : (m : ℕ) {j : ℕ} → j < m → (i : ℕ) × (m ≡ suc i)
 suc_of zero h = absurd (omega arith)
@@ -81,26 +82,26 @@ not_two votes e = omega arith
 not_two adjusts e = omega arith
 
 -- a frame of the phase names somebody
-named_frame : (k : Kind) (x : Frame) → delivered_by x ≡ delivery k → (c : ℕ) × (named x ≡ SomeNumber c)
+named_frame : (k : Kind) (x : Frame) → delivered_by x ≡ delivery k → (c : ℕ) × (named x ≡ Some c)
 named_frame k NoFrame e = absurd (not_zero k e)
 named_frame k Start e = absurd (not_two k e)
 named_frame k (Vote j c x) e = (c, refl)
 named_frame k (Adjust j c x) e = (c, refl)
 
 -- who outranks a choice has a lower number
-pub outranks_below : (c : ℕ) (m : OptNumber) (w : ℕ) → outranks c m ≡ true → m ≡ SomeNumber w → c < w
-outranks_below c NoNumber w o e = none_is_some e
-outranks_below c (SomeNumber v) w o e = let eq = same_number_lem e in let lt = ltb-true c v o in omega arith
+pub outranks_below : (c : ℕ) (m : Option ℕ) (w : ℕ) → outranks c m ≡ true → m ≡ Some w → c < w
+outranks_below c None w o e = none_is_some e
+outranks_below c (Some v) w o e = let eq = same_number_lem e in let lt = ltb-true c v o in omega arith
 
 -- a choice that is not outranked is there, and at most the number
-not_outranked : (c : ℕ) (m : OptNumber) → outranks c m ≡ false → (w : ℕ) × (m ≡ SomeNumber w) × (w ≤ c)
-not_outranked c NoNumber e = absurd_bool refl e
-not_outranked c (SomeNumber w) e = (w, refl, ltb-false c w e)
+not_outranked : (c : ℕ) (m : Option ℕ) → outranks c m ≡ false → (w : ℕ) × (m ≡ Some w) × (w ≤ c)
+not_outranked c None e = absurd_bool refl e
+not_outranked c (Some w) e = (w, refl, ltb-false c w e)
 
 module _ (g : Setting) (k : Kind) where
   -- a head's choice, the number of frames that it sent, whether its phase is closed, one more than the last serial taken
   -- from p, and whom p's frame of serial j names
-  abbrev pub held : History → ℕ → OptNumber
+  abbrev pub held : History → ℕ → Option ℕ
   held s q = (phase_of k (record_of g s q)).choice
 
   abbrev pub sent : History → ℕ → ℕ
@@ -112,14 +113,14 @@ module _ (g : Setting) (k : Kind) where
   abbrev pub last_taken : History → ℕ → ℕ → ℕ
   last_taken s q p = taken (taken_of k (kept_of (record_of g s q) p))
 
-  abbrev pub names : History → ℕ → ℕ → OptNumber
+  abbrev pub names : History → ℕ → ℕ → Option ℕ
   names s p j = named (frame_sent s (delivery k) p j)
 
-  names_step : (e : Event) (s : History) (p j : ℕ) → names (e ∷ s) p j ≡ or_number (names s p j) (cond (eqb e.entry.head p) (named_by k j e.frame) NoNumber)
+  names_step : (e : Event) (s : History) (p j : ℕ) → names (e ∷ s) p j ≡ or_number (names s p j) (cond (eqb e.entry.head p) (named_by k j e.frame) None)
   unfolding frame_sent
   names_step e s p j =
       named_or k j (frame_sent s (delivery k) p j) _ (frame_fits s (delivery k) p j)
-      ∙ ap (λ (m : OptNumber). or_number (names s p j) m) (named_if (eqb e.entry.head p) (is_delivered_by (delivery k) j e.frame) e.frame)
+      ∙ ap (λ (m : Option ℕ). or_number (names s p j) m) (named_if (eqb e.entry.head p) (is_delivered_by (delivery k) j e.frame) e.frame)
 
   pub names_other : (e : Event) (s : History) (p j : ℕ) → eqb e.entry.head p ≡ false → names (e ∷ s) p j ≡ names s p j
   names_other e s p j d = names_step e s p j ∙ rw d (or_none (names s p j))
@@ -132,8 +133,8 @@ module _ (g : Setting) (k : Kind) where
 
   -- whom a head names: itself, if it has no choice, or one whom the frame that it is delivered names
   pub data Origin (s : History) (e : Event) (c : ℕ) : Type 0 where
-    own : c ≡ e.entry.head → held s e.entry.head ≡ NoNumber → (phase_of k (record_of g (e ∷ s) e.entry.head)).turn ≡ true → Origin s e c
-    reached : e.entry.action ≡ delivery k → names s e.entry.sender e.entry.serial ≡ SomeNumber c → Origin s e c
+    own : c ≡ e.entry.head → held s e.entry.head ≡ None → (phase_of k (record_of g (e ∷ s) e.entry.head)).turn ≡ true → Origin s e c
+    reached : e.entry.action ≡ delivery k → names s e.entry.sender e.entry.serial ≡ Some c → Origin s e c
 
   -- what an event does to its head's choice and frames: nothing, or the head sends one that names a choice
   pub record SendsNone (s : History) (e : Event) : Type 0 where
@@ -146,9 +147,9 @@ module _ (g : Setting) (k : Kind) where
     pub was_open : is_over s e.entry.head ≡ false
     pub higher : outranks choice (held s e.entry.head) ≡ true
     pub origin : Origin s e choice
-    pub held_new : held (e ∷ s) e.entry.head ≡ SomeNumber choice
+    pub held_new : held (e ∷ s) e.entry.head ≡ Some choice
     pub sent_new : sent (e ∷ s) e.entry.head ≡ suc (sent s e.entry.head)
-    pub names_new : (j : ℕ) → names (e ∷ s) e.entry.head j ≡ or_number (names s e.entry.head j) (cond (eqb (sent s e.entry.head) j) (SomeNumber choice) NoNumber)
+    pub names_new : (j : ℕ) → names (e ∷ s) e.entry.head j ≡ or_number (names s e.entry.head j) (cond (eqb (sent s e.entry.head) j) (Some choice) None)
 
   pub data Turn (s : History) (e : Event) : Type 0 where
     sends_none : SendsNone s e → Turn s e
@@ -179,7 +180,7 @@ module _ (g : Setting) (k : Kind) where
   pub names_at : {s : History} {e : Event} (t : Taken g s e) (j : ℕ)
       → names (e ∷ s) e.entry.head j ≡ or_number (names s e.entry.head j) (named_under (named_in k (sending_at t)) (sent s e.entry.head) j)
   names_at {s} {e} t j =
-      names_step e s e.entry.head j ∙ rw (eqb_same e.entry.head) (ap (λ (m : OptNumber). or_number (names s e.entry.head j) m)
+      names_step e s e.entry.head j ∙ rw (eqb_same e.entry.head) (ap (λ (m : Option ℕ). or_number (names s e.entry.head j) m)
       (of_effect g (λ y. named_by k j y.frame ≡ named_under (named_in k (sending_at t)) (sent s e.entry.head) j) t
       (named_after k (sending_at t) (prepared_at t) j ∙ ap (λ (i : ℕ). named_under (named_in k (sending_at t)) i j) (sent_at t))))
 
@@ -189,19 +190,19 @@ module _ (g : Setting) (k : Kind) where
       (ap (λ (p : Phase). p.turn) (phase_at t) ∙ chosen_turn (named_in k (sending_at t)) _ ∙ tu)
   origin_at {s} {e} t v c (told nu na) =
       let is = is_delivery g k t nu in
-      reached is (subst (λ (a : ℕ). named (frame_sent s a e.entry.sender e.entry.serial) ≡ SomeNumber c) is
+      reached is (subst (λ (a : ℕ). named (frame_sent s a e.entry.sender e.entry.serial) ≡ Some c) is
       (ap (λ (d : Delivery). named d.frame) (sym (delivery_at g t)) ∙ na))
 
   pub turn : {s : History} {e : Event} → Taken g s e → Valid g s → Turn s e
   turn {s} {e} t v = go (named_in k (sending_at t)) refl
     where
-      go : (m : OptNumber) → named_in k (sending_at t) ≡ m → Turn s e
-      go NoNumber u = sends_none (record {
+      go : (m : Option ℕ) → named_in k (sending_at t) ≡ m → Turn s e
+      go None u = sends_none (record {
         held_same = ap (λ (p : Phase). p.choice) (phase_at t) ∙ rw u (choice_at t);
         sent_same = ap (λ (p : Phase). p.sent) (phase_at t) ∙ rw u (sent_at t);
         names_same = λ j. names_at t j ∙ rw u (or_none (names s e.entry.head j));
       })
-      go (SomeNumber c) u =
+      go (Some c) u =
           let w = naming k (allowed (base_of g s e) t.action (closed_last _ _ t.action ∙ t.is_open)) u in
           sends_one (record {
             choice = c;
@@ -300,23 +301,23 @@ module _ (g : Setting) (k : Kind) where
     pub past : History
     pub there : Earlier (event ∷ past) h
     pub was_open : is_over past q ≡ false
-    pub holds : held (event ∷ past) q ≡ SomeNumber c
+    pub holds : held (event ∷ past) q ≡ Some c
 
-  pub chosen_at : {h : History} → Valid g h → (q c : ℕ) → held h q ≡ SomeNumber c → ChosenAt h q c
+  pub chosen_at : {h : History} → Valid g h → (q c : ℕ) → held h q ≡ Some c → ChosenAt h q c
   unfolding record_of fresh
   chosen_at start q c = λ h. absurd (nobody_chosen k h)
     where
-      nobody_chosen : (k : Kind) → (phase_of k (fresh g.n g.f q)).choice ≡ SomeNumber c → ⊥
+      nobody_chosen : (k : Kind) → (phase_of k (fresh g.n g.f q)).choice ≡ Some c → ⊥
       nobody_chosen votes h = none_is_some h
       nobody_chosen adjusts h = none_is_some h
   chosen_at (more {e = e} {s = s} t v) q c =
-      by_head (λ q. held (e ∷ s) q ≡ SomeNumber c → ChosenAt (e ∷ s) q c) e q (go (turn t v) (chosen_at v e.entry.head c))
+      by_head (λ q. held (e ∷ s) q ≡ Some c → ChosenAt (e ∷ s) q c) e q (go (turn t v) (chosen_at v e.entry.head c))
       (λ d h. on (chosen_at v q c (sym (held_other e s q d) ∙ h)))
     where
       on : {q : ℕ} → ChosenAt s q c → ChosenAt (e ∷ s) q c
       on b = record { event = b.event; past = b.past; there = later b.there; was_open = b.was_open; holds = b.holds }
 
-      go : Turn s e → (held s e.entry.head ≡ SomeNumber c → ChosenAt s e.entry.head c) → held (e ∷ s) e.entry.head ≡ SomeNumber c → ChosenAt (e ∷ s) e.entry.head c
+      go : Turn s e → (held s e.entry.head ≡ Some c → ChosenAt s e.entry.head c) → held (e ∷ s) e.entry.head ≡ Some c → ChosenAt (e ∷ s) e.entry.head c
       go (sends_none z) ih h = on (ih (sym z.held_same ∙ h))
       go (sends_one z) ih h = record { event = e; past = s; there = now; was_open = z.was_open; holds = h }
 
@@ -331,9 +332,9 @@ module _ (g : Setting) (k : Kind) where
     pub above : last_taken s e.entry.head p ≤ e.entry.serial
     pub last_new : last_taken (e ∷ s) e.entry.head p ≡ suc e.entry.serial
     pub choice : ℕ
-    pub was_sent : names s p e.entry.serial ≡ SomeNumber choice
+    pub was_sent : names s p e.entry.serial ≡ Some choice
     pub now : ℕ
-    pub held_now : held (e ∷ s) e.entry.head ≡ SomeNumber now
+    pub held_now : held (e ∷ s) e.entry.head ≡ Some now
     pub low : now ≤ choice
 
   pub data Hearing (s : History) (e : Event) (p : ℕ) : Type 0 where
@@ -362,7 +363,7 @@ module _ (g : Setting) (k : Kind) where
   -- a frame that is taken
   took_frame : {s : History} {e : Event} (t : Taken g s e) → Valid g s → (p : ℕ) → e.entry.action ≡ delivery k → e.entry.sender ≡ p
       → passed_over k (base_of g s e) e.entry.sender (serial_of (frame_of s e.entry)) ≡ false
-      → taken_of k (kept_of (record_of g (e ∷ s) e.entry.head) p) ≡ SomeNumber e.entry.serial → TookFrame s e p
+      → taken_of k (kept_of (record_of g (e ∷ s) e.entry.head) p) ≡ Some e.entry.serial → TookFrame s e p
   took_frame {s} {e} t v p a d u last =
       let c = named_frame k x (eqb-true _ _ (frame_of_phase t a)) in
       record {
@@ -371,8 +372,8 @@ module _ (g : Setting) (k : Kind) where
         above = above_taken e.entry.serial (taken_of k (kept_of r p)) (subst (λ (z : ℕ). is_above e.entry.serial (taken_of k (kept_of r z)) ≡ true) d is_above_lem);
         last_new = ap taken last;
         choice = c.0;
-        was_sent = subst (λ (z : ℕ). names s z e.entry.serial ≡ SomeNumber c.0) d
-            (subst (λ (y : ℕ). named (frame_sent s y e.entry.sender e.entry.serial) ≡ SomeNumber c.0) a c.1);
+        was_sent = subst (λ (z : ℕ). names s z e.entry.serial ≡ Some c.0) d
+            (subst (λ (y : ℕ). named (frame_sent s y e.entry.sender e.entry.serial) ≡ Some c.0) a c.1);
         now = (follows c.0 c.1).0;
         held_now = (follows c.0 c.1).1;
         low = (follows c.0 c.1).2;
@@ -388,25 +389,25 @@ module _ (g : Setting) (k : Kind) where
       is_above_lem = subst (λ (j : ℕ). is_above j (taken_of k (kept_of r e.entry.sender)) ≡ true) t.asked.serial_is (not_false (or_right (phase_of k r).closed _ u))
 
       -- the choice is now at most the one named
-      follows : (c : ℕ) → named x ≡ SomeNumber c → (w : ℕ) × (held (e ∷ s) e.entry.head ≡ SomeNumber w) × (w ≤ c)
+      follows : (c : ℕ) → named x ≡ Some c → (w : ℕ) × (held (e ∷ s) e.entry.head ≡ Some w) × (w ≤ c)
       follows c na = go (outranks c (phase_of k r).choice) refl
         where
-          in_action : named (delivery_in t.action).frame ≡ SomeNumber c
+          in_action : named (delivery_in t.action).frame ≡ Some c
           in_action = ap (λ (y : Delivery). named y.frame) (delivery_at g t) ∙ na
 
           not_passed : passed_over k r (delivery_in t.action).sender (serial_of (delivery_in t.action).frame) ≡ false
           not_passed = rw (delivery_at g t) u
 
-          go : (o : Bool) → outranks c (phase_of k r).choice ≡ o → (w : ℕ) × (held (e ∷ s) e.entry.head ≡ SomeNumber w) × (w ≤ c)
+          go : (o : Bool) → outranks c (phase_of k r).choice ≡ o → (w : ℕ) × (held (e ∷ s) e.entry.head ≡ Some w) × (w ≤ c)
           go true o =
               let named-it = delivered_sending k r t.action c (delivers g k t a) in_action not_passed o in
               (c, ap (λ (z : Phase). z.choice) (phase_at t) ∙ rw named-it refl, omega arith)
           go false o =
               let w = not_outranked c (phase_of k r).choice o in
-              let was : held s e.entry.head ≡ SomeNumber w.0 = ap (λ (z : Phase). z.choice) (sym (phase_last k _ _)) ∙ w.1 in
+              let was : held s e.entry.head ≡ Some w.0 = ap (λ (z : Phase). z.choice) (sym (phase_last k _ _)) ∙ w.1 in
               still w.0 was w.2 (turn t v)
             where
-              still : (w : ℕ) → held s e.entry.head ≡ SomeNumber w → w ≤ c → Turn s e → (w : ℕ) × (held (e ∷ s) e.entry.head ≡ SomeNumber w) × (w ≤ c)
+              still : (w : ℕ) → held s e.entry.head ≡ Some w → w ≤ c → Turn s e → (w : ℕ) × (held (e ∷ s) e.entry.head ≡ Some w) × (w ≤ c)
               still w was le (sends_none z) = (w, z.held_same ∙ was, le)
               still w was le (sends_one z) = (z.choice, z.held_new, (let lt = outranks_below _ _ _ z.higher was in omega arith))
 
@@ -426,7 +427,7 @@ module _ (g : Setting) (k : Kind) where
       untaken u = ap taken (rw u at at)
 
       kept : (b : Bool) → eqb (delivered_by x) (delivery k) ≡ b → eqb e.entry.sender p ≡ true → ignored r e.entry.sender x ≡ false
-          → taken_of k (kept_of (record_of g (e ∷ s) e.entry.head) p) ≡ cond b (SomeNumber (serial_of x)) (taken_of k (kept_of (record_of g s e.entry.head) p))
+          → taken_of k (kept_of (record_of g (e ∷ s) e.entry.head) p) ≡ cond b (Some (serial_of x)) (taken_of k (kept_of (record_of g s e.entry.head) p))
       kept b tb td ti =
           let both : (not (ignored r e.entry.sender x) && eqb e.entry.sender p) ≡ true = rw (ti, td) refl in
           (rw both at at) ∙ taken_after k r e.entry.sender x ∙ rw (tb, eqb-true e.entry.sender p td) refl
@@ -447,31 +448,31 @@ module _ (g : Setting) (k : Kind) where
       go true tb true td true ti = passed (record { last_same = untaken (rw ti refl); old = λ a f o. old_serial tb ti (eqb-true e.entry.sender p td) o })
       go true tb true td false ti =
           took (took_frame t v p (phase_of_frame t tb) (eqb-true e.entry.sender p td) (sym (ignored_frame k r e.entry.sender x tb) ∙ ti)
-          (kept true tb td ti ∙ ap (λ (j : ℕ). SomeNumber j) t.asked.serial_is))
+          (kept true tb td ti ∙ ap (λ (j : ℕ). Some j) t.asked.serial_is))
 
   -- FRAMES SENT
 
   -- a property of every frame of p holds of those sent before, and of the one that p sends now
-  pub frame_new : {s : History} {e : Event} (P : ℕ → ℕ → Type 0) → Turn s e → ((j c : ℕ) → names s e.entry.head j ≡ SomeNumber c → P j c)
-      → ((z : SendsOne s e) → P (sent s e.entry.head) z.choice) → (j c : ℕ) → names (e ∷ s) e.entry.head j ≡ SomeNumber c → P j c
+  pub frame_new : {s : History} {e : Event} (P : ℕ → ℕ → Type 0) → Turn s e → ((j c : ℕ) → names s e.entry.head j ≡ Some c → P j c)
+      → ((z : SendsOne s e) → P (sent s e.entry.head) z.choice) → (j c : ℕ) → names (e ∷ s) e.entry.head j ≡ Some c → P j c
   frame_new {s} {e} P (sends_none z) old new j c h = old j c (sym (z.names_same j) ∙ h)
   frame_new {s} {e} P (sends_one z) old new j c h = go (names s e.entry.head j) refl (eqb (sent s e.entry.head) j) refl (sym (z.names_new j) ∙ h)
     where
-      go : (m : OptNumber) → names s e.entry.head j ≡ m → (b : Bool) → eqb (sent s e.entry.head) j ≡ b → or_number m (cond b (SomeNumber z.choice) NoNumber) ≡ SomeNumber c → P j c
-      go (SomeNumber w) u b ub x = old j c (u ∙ x)
-      go NoNumber u true ub x = subst (λ (i : ℕ). P i c) (eqb-true _ j ub) (subst (P (sent s e.entry.head)) (same_number_lem x) (new z))
-      go NoNumber u false ub x = none_is_some x
+      go : (m : Option ℕ) → names s e.entry.head j ≡ m → (b : Bool) → eqb (sent s e.entry.head) j ≡ b → or_number m (cond b (Some z.choice) None) ≡ Some c → P j c
+      go (Some w) u b ub x = old j c (u ∙ x)
+      go None u true ub x = subst (λ (i : ℕ). P i c) (eqb-true _ j ub) (subst (P (sent s e.entry.head)) (same_number_lem x) (new z))
+      go None u false ub x = none_is_some x
 
   -- a frame sent under a serial never changes
-  pub frame_stays : {s : History} {e : Event} → Taken g s e → Valid g s → (p j c : ℕ) → names s p j ≡ SomeNumber c → names (e ∷ s) p j ≡ SomeNumber c
+  pub frame_stays : {s : History} {e : Event} → Taken g s e → Valid g s → (p j c : ℕ) → names s p j ≡ Some c → names (e ∷ s) p j ≡ Some c
   frame_stays {s} {e} t v p j c h = names_step e s p j ∙ rw h refl
 
   -- serials count a head's frames from 0
-  pub serial_below : {s : History} → Valid g s → (p j c : ℕ) → names s p j ≡ SomeNumber c → j < sent s p
+  pub serial_below : {s : History} → Valid g s → (p j c : ℕ) → names s p j ≡ Some c → j < sent s p
   unfolding frame_sent
   serial_below start p j c = none_is_some
   serial_below (more {e = e} {s = s} t v) p j c =
-      by_head (λ p. names (e ∷ s) p j ≡ SomeNumber c → j < sent (e ∷ s) p) e p
+      by_head (λ p. names (e ∷ s) p j ≡ Some c → j < sent (e ∷ s) p) e p
       (frame_new (λ j c. j < sent (e ∷ s) e.entry.head) (turn t v) (λ j c h. sent_grows (turn t v) (serial_below v e.entry.head j c h))
       (λ z. let eq = z.sent_new in omega arith) j c)
       (λ d h. subst (λ (i : ℕ). j < i) (sym (sent_other e s p d)) (serial_below v p j c (sym (names_other e s p j d) ∙ h)))
@@ -483,15 +484,15 @@ module _ (g : Setting) (k : Kind) where
   -- the last frame sent names the choice held
   pub record LastFrame (s : History) (p j : ℕ) : Type 0 where
     pub choice : ℕ
-    pub holds : held s p ≡ SomeNumber choice
-    pub names_it : names s p j ≡ SomeNumber choice
+    pub holds : held s p ≡ Some choice
+    pub names_it : names s p j ≡ Some choice
 
-  pub unsent : {s : History} → Valid g s → (p : ℕ) → names s p (sent s p) ≡ NoNumber
+  pub unsent : {s : History} → Valid g s → (p : ℕ) → names s p (sent s p) ≡ None
   unsent {s} v p = go (names s p (sent s p)) refl
     where
-      go : (m : OptNumber) → names s p (sent s p) ≡ m → names s p (sent s p) ≡ NoNumber
-      go NoNumber u = u
-      go (SomeNumber c) u = absurd (let lt = serial_below v p (sent s p) c u in omega arith)
+      go : (m : Option ℕ) → names s p (sent s p) ≡ m → names s p (sent s p) ≡ None
+      go None u = u
+      go (Some c) u = absurd (let lt = serial_below v p (sent s p) c u in omega arith)
 
   pub last_frame : {s : History} → Valid g s → (p j : ℕ) → sent s p ≡ suc j → LastFrame s p j
   unfolding record_of fresh
@@ -509,22 +510,22 @@ module _ (g : Setting) (k : Kind) where
       go (sends_none z) ih h = let b = ih (sym z.sent_same ∙ h) in record { choice = b.choice; holds = z.held_same ∙ b.holds; names_it = z.names_same j ∙ b.names_it }
       go (sends_one z) ih h =
           let eq : sent s e.entry.head ≡ j = (let y = sym z.sent_new ∙ h in omega arith) in
-          let none : names s e.entry.head j ≡ NoNumber = subst (λ (i : ℕ). names s e.entry.head i ≡ NoNumber) eq (unsent v e.entry.head) in
+          let none : names s e.entry.head j ≡ None = subst (λ (i : ℕ). names s e.entry.head i ≡ None) eq (unsent v e.entry.head) in
           record { choice = z.choice; holds = z.held_new; names_it = z.names_new j ∙ rw (none, eq-eqb _ j eq) refl }
 
   -- who has a choice has sent a frame
-  pub held_sent : {s : History} → Valid g s → (p c : ℕ) → held s p ≡ SomeNumber c → (j : ℕ) × (sent s p ≡ suc j)
+  pub held_sent : {s : History} → Valid g s → (p c : ℕ) → held s p ≡ Some c → (j : ℕ) × (sent s p ≡ suc j)
   unfolding record_of fresh
   held_sent start p c = λ h. absurd (none_held k h)
     where
-      none_held : (k : Kind) → (phase_of k (fresh g.n g.f p)).choice ≡ SomeNumber c → ⊥
+      none_held : (k : Kind) → (phase_of k (fresh g.n g.f p)).choice ≡ Some c → ⊥
       none_held votes h = none_is_some h
       none_held adjusts h = none_is_some h
   held_sent (more {e = e} {s = s} t v) p c =
-      by_head (λ p. held (e ∷ s) p ≡ SomeNumber c → (j : ℕ) × (sent (e ∷ s) p ≡ suc j)) e p (go (turn t v) (held_sent v e.entry.head c))
+      by_head (λ p. held (e ∷ s) p ≡ Some c → (j : ℕ) × (sent (e ∷ s) p ≡ suc j)) e p (go (turn t v) (held_sent v e.entry.head c))
       (λ d h. let b = held_sent v p c (sym (held_other e s p d) ∙ h) in (b.0, sent_other e s p d ∙ b.1))
     where
-      go : Turn s e → (held s e.entry.head ≡ SomeNumber c → (j : ℕ) × (sent s e.entry.head ≡ suc j)) → held (e ∷ s) e.entry.head ≡ SomeNumber c
+      go : Turn s e → (held s e.entry.head ≡ Some c → (j : ℕ) × (sent s e.entry.head ≡ suc j)) → held (e ∷ s) e.entry.head ≡ Some c
           → (j : ℕ) × (sent (e ∷ s) e.entry.head ≡ suc j)
       go (sends_none z) ih h = let b = ih (sym z.held_same ∙ h) in (b.0, z.sent_same ∙ b.1)
       go (sends_one z) ih h = (sent s e.entry.head, z.sent_new)
@@ -533,7 +534,7 @@ module _ (g : Setting) (k : Kind) where
 
   pub record AtMost (s : History) (q c : ℕ) : Type 0 where
     pub choice : ℕ
-    pub holds : held s q ≡ SomeNumber choice
+    pub holds : held s q ≡ Some choice
     pub low : choice ≤ c
 
   falls_here : {s : History} {e : Event} → Turn s e → (c : ℕ) → AtMost s e.entry.head c → AtMost (e ∷ s) e.entry.head c
@@ -554,7 +555,7 @@ module _ (g : Setting) (k : Kind) where
 
   pub record Bound (s : History) (q p j : ℕ) : Type 0 where
     pub choice : ℕ
-    pub names_it : names s p j ≡ SomeNumber choice
+    pub names_it : names s p j ≡ Some choice
     pub at_most : AtMost s q choice
 
   pub bound : {s : History} → g.n ≤ 16 → Valid g s → (q p j : ℕ) → last_taken s q p ≡ suc j → Bound s q p j
@@ -577,7 +578,7 @@ module _ (g : Setting) (k : Kind) where
           let eq : e.entry.serial ≡ j = (let y = sym z.last_new ∙ h in omega arith) in
           record {
             choice = z.choice;
-            names_it = frame_stays t v p j z.choice (subst (λ (i : ℕ). names s p i ≡ SomeNumber z.choice) eq z.was_sent);
+            names_it = frame_stays t v p j z.choice (subst (λ (i : ℕ). names s p i ≡ Some z.choice) eq z.was_sent);
             at_most = record { choice = z.now; holds = z.held_now; low = z.low };
           }
 
@@ -612,7 +613,7 @@ module _ (g : Setting) (k : Kind) where
           go (took z) a f i = let eq = z.last_new in omega arith
 
   -- who was delivered a frame while its phase was open has a choice
-  pub delivered_choice : {s : History} → g.n ≤ 16 → Valid g s → (q : ℕ) → Premises.took (delivery k) q s ≡ true → is_over s q ≡ false → (c : ℕ) × (held s q ≡ SomeNumber c)
+  pub delivered_choice : {s : History} → g.n ≤ 16 → Valid g s → (q : ℕ) → Premises.took (delivery k) q s ≡ true → is_over s q ≡ false → (c : ℕ) × (held s q ≡ Some c)
   delivered_choice {s} small v q h o =
       let f = find (takes (delivery k) q) s h in
       let n = f.event.entry in
@@ -625,7 +626,7 @@ module _ (g : Setting) (k : Kind) where
       (b.at_most.choice, b.at_most.holds)
 
   -- (b) AGREEMENT: p's last frame reached q while q was open, so q's choice is at most p's
-  pub not_above : {s : History} → g.n ≤ 16 → Valid g s → (p q c w : ℕ) → held s p ≡ SomeNumber c → held s q ≡ SomeNumber w
+  pub not_above : {s : History} → g.n ≤ 16 → Valid g s → (p q c w : ℕ) → held s p ≡ Some c → held s q ≡ Some w
       → ((j : ℕ) → j < sent s p → received (delivery k) p j q s ≡ true) → is_over s q ≡ false → w ≤ c
   not_above {s} small v p q c w hp hq reach o =
       let j = held_sent v p c hp in
@@ -641,7 +642,7 @@ module _ (g : Setting) (k : Kind) where
       let le = b.at_most.low in
       omega arith
 
-  pub agree : {s : History} → g.n ≤ 16 → Valid g s → (p q c w : ℕ) → held s p ≡ SomeNumber c → held s q ≡ SomeNumber w
+  pub agree : {s : History} → g.n ≤ 16 → Valid g s → (p q c w : ℕ) → held s p ≡ Some c → held s q ≡ Some w
       → ((j : ℕ) → j < sent s p → received (delivery k) p j q s ≡ true) → ((j : ℕ) → j < sent s q → received (delivery k) q j p s ≡ true)
       → is_over s p ≡ false → is_over s q ≡ false → c ≡ w
   agree small v p q c w hp hq rp rq op oq =

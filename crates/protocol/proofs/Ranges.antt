@@ -6,6 +6,7 @@
 -- readings that are left are for the candidate, whatever was kept; no other action brings one for another.
 -- Main results: `in_range`, `range_test`, `effect_in_range`, `take_in_range`, `step_in_range`,
 -- `fresh_in_range`, `run_in_range`, `frames_in_range`, `votes_below`.
+use Rattle.std.specs.Prelude.{Option, Some, None, is_some, unwrap_or}
 use mathlib.Core.Path.{◌≡◌, refl, sym, ◌∙◌, ap, subst}
 use mathlib.Core.Bool.{Bool, true, false, cond, not, ◌&&◌, ◌||◌}
 use mathlib.Core.List.{List, ◌∷◌}
@@ -17,10 +18,10 @@ use lib.ListN.{get_or, set, replicate, get_or-replicate}
 use lib.Seq.{get_or-set_other}
 use borrow.Author.Tests.{eqb-true, eqb-false, eq-eqb, ltb-true, ltb-false, lt-ltb, le-ltb, leb-true, le-leb}
 use Rattle.protocol.specs.Base.{◌⇒◌}
-use Rattle.protocol.specs.Types.{Reading, OptReading, NoReading, SomeReading, OptNumber, NoNumber, SomeNumber, Sender, HeadRecord, Setting, Input, Stepped, Frame, NoFrame, Start, Vote, Adjust}
+use Rattle.protocol.specs.Types.{Reading, Sender, HeadRecord, Setting, Input, Stepped, Frame, NoFrame, Start, Vote, Adjust}
 use Rattle.protocol.specs.Types.{Action, Look, StartSent, StartDelivered, StartConfirmed, VoteTurn, VoteDelivered, VoteClose, AdjustTurn, AdjustDelivered, AdjustClose}
 use Rattle.protocol.specs.Words.{heads_fit}
-use Rattle.protocol.specs.Record.{is_reading, is_number, reading_or0, number_or0, reading, no_sender, kept_of, start_of, vote_of, fresh, reading_in_range, serial_in_range, name_in_range, sender_in_range, sender_is_none, same_number, reading_counts, sent_in_range, phase_in_range, marks_in_range, record_in_range}
+use Rattle.protocol.specs.Record.{reading_or0, reading, no_sender, kept_of, start_of, vote_of, fresh, reading_in_range, serial_in_range, name_in_range, sender_in_range, sender_is_none, same_number, reading_counts, sent_in_range, phase_in_range, marks_in_range, record_in_range}
 use Rattle.protocol.specs.Step.{with_vote_reading, with_candidate, with_adjuster, with_last, keep_vote, kept_for, drop_others, accepted, vote, adjust, prepend, vote_readings, outranks, candidate_after, effect, is_closed, may_close, close_early, concluded, is_tested, act, taken_as, take_action, actions_of, action_of, input_fits, step}
 use Rattle.protocol.specs.Run.{History, record_of, is_delivered_by, or_else, frame_sent, carried_reading}
 use Rattle.protocol.proofs.Tests.{absurd_bool, cases, cond_elim, not_true, not_false, parts, and_left, and_right, and_both, or_left, or_right, or_first, or_second, or_cases, implied, implies, all_below_lem, below_all}
@@ -37,8 +38,8 @@ use Rattle.protocol.proofs.Valid.{base_of, Valid, start, more, heads_fit_lem, re
 pub record SenderInRange (n : ℕ) (s : Sender) : Type 0 where
   pub start : reading_or0 s.start < 2 ^ 28
   pub vote : reading_or0 s.vote < 2 ^ 28
-  pub serial : (k : Kind) → number_or0 (taken_of k s) ≤ 15
-  pub latest : (k : Kind) → number_or0 (latest_of k s) < n
+  pub serial : (k : Kind) → unwrap_or (taken_of k s) 0 ≤ 15
+  pub latest : (k : Kind) → unwrap_or (latest_of k s) 0 < n
 
 -- what is kept by sender p of n
 pub record KeptInRange (n p : ℕ) (s : Sender) : Type 0 where
@@ -46,9 +47,9 @@ pub record KeptInRange (n p : ℕ) (s : Sender) : Type 0 where
   pub above : n ≤ p → p < 16 → s ≡ no_sender
 
 -- a phase's choice and the number of frames sent in it
-abbrev pub SentInRange : ℕ → OptNumber → ℕ → Type 0
-SentInRange n NoNumber sent = sent ≡ 0
-SentInRange n (SomeNumber v) sent = (1 ≤ sent) × (sent + v ≤ n)
+abbrev pub SentInRange : ℕ → Option ℕ → ℕ → Type 0
+SentInRange n None sent = sent ≡ 0
+SentInRange n (Some v) sent = (1 ≤ sent) × (sent + v ≤ n)
 
 -- the marks, by what each asks for
 abbrev pub MarksInRange : HeadRecord → Type 0
@@ -60,8 +61,8 @@ MarksInRange r =
     }
 
 -- what is kept of a sender fits the candidate m: a vote reading only with a latest vote that names m
-abbrev pub fits_for : OptNumber → Sender → Bool
-fits_for m k = is_reading k.vote ⇒ same_number k.candidate m
+abbrev pub fits_for : Option ℕ → Sender → Bool
+fits_for m k = is_some k.vote ⇒ same_number k.candidate m
 
 -- so it is with every other sender
 abbrev pub Counted : HeadRecord → Type 0
@@ -72,7 +73,7 @@ pub record InRange (r : HeadRecord) : Type 0 where
   pub own : r.own < r.n
   pub last : r.last.0 < 2 ^ 28
   pub adjustment : r.adjustment.0 < 2 ^ 28
-  pub unadjusted : r.adjust.choice ≡ NoNumber → r.adjustment.0 ≡ 0
+  pub unadjusted : r.adjust.choice ≡ None → r.adjustment.0 ≡ 0
   pub phase : (k : Kind) → SentInRange r.n (phase_of k r).choice (phase_of k r).sent
   pub early : (k : Kind) → (phase_of k r).early ≡ true → (phase_of k r).closed ≡ true
   pub marks : MarksInRange r
@@ -82,7 +83,7 @@ pub record InRange (r : HeadRecord) : Type 0 where
 -- what a frame carries, an action with the frame that it delivers, and an answer
 pub record FrameInRange (n : ℕ) (x : Frame) : Type 0 where
   pub serial : serial_of x ≤ 15
-  pub choice : number_or0 (named x) < n
+  pub choice : unwrap_or (named x) 0 < n
   pub reading : reading_or0 (carried_reading x) < 2 ^ 28
 
 pub record DeliveryInRange (n : ℕ) (d : Delivery) : Type 0 where
@@ -101,21 +102,21 @@ for_both P v a adjusts = a
 
 -- THE TEST OF CAUSE 10 SAYS THE SAME
 
-reading_test : (x : OptReading) → reading_in_range x ≡ ltb (reading_or0 x) (2 ^ 28)
-reading_test NoReading = refl
-reading_test (SomeReading x) = refl
+reading_test : (x : Option Reading) → reading_in_range x ≡ ltb (reading_or0 x) (2 ^ 28)
+reading_test None = refl
+reading_test (Some x) = refl
 
-serial_test : (m : OptNumber) → serial_in_range m ≡ leb (number_or0 m) 15
-serial_test NoNumber = refl
-serial_test (SomeNumber k) = refl
+serial_test : (m : Option ℕ) → serial_in_range m ≡ leb (unwrap_or m 0) 15
+serial_test None = refl
+serial_test (Some k) = refl
 
-name_test : (n : ℕ) → 0 < n → (m : OptNumber) → name_in_range n m ≡ ltb (number_or0 m) n
-name_test n h NoNumber = sym (lt-ltb 0 n h)
-name_test n h (SomeNumber c) = refl
+name_test : (n : ℕ) → 0 < n → (m : Option ℕ) → name_in_range n m ≡ ltb (unwrap_or m 0) n
+name_test n h None = sym (lt-ltb 0 n h)
+name_test n h (Some c) = refl
 
-no_reading : (x : OptReading) → is_reading x ≡ false → x ≡ NoReading
-no_reading NoReading e = refl
-no_reading (SomeReading x) e = absurd_bool refl e
+no_reading : (x : Option Reading) → is_some x ≡ false → x ≡ None
+no_reading None e = refl
+no_reading (Some x) e = absurd_bool refl e
 
 sender_in_range_lem : (n : ℕ) → 0 < n → {s : Sender} → sender_in_range n s ≡ true → SenderInRange n s
 unfolding sender_in_range
@@ -144,17 +145,17 @@ nothing_kept s e =
     let w = no_number s.adjuster (not_true (search parts depth 6)) in
     λ i. record { start = a i; vote = b i; voted = c i; adjusted = d i; candidate = v i; adjuster = w i }
 
-sent_in_range_lem : (n : ℕ) (m : OptNumber) (sent : ℕ) → sent_in_range n m sent ≡ true → SentInRange n m sent
-sent_in_range_lem n NoNumber sent e = eqb-true sent 0 e
-sent_in_range_lem n (SomeNumber v) sent e = (leb-true _ _ (search parts), leb-true _ _ (search parts))
+sent_in_range_lem : (n : ℕ) (m : Option ℕ) (sent : ℕ) → sent_in_range n m sent ≡ true → SentInRange n m sent
+sent_in_range_lem n None sent e = eqb-true sent 0 e
+sent_in_range_lem n (Some v) sent e = (leb-true _ _ (search parts), leb-true _ _ (search parts))
 
-sent_test : (n : ℕ) (m : OptNumber) (sent : ℕ) → SentInRange n m sent → sent_in_range n m sent ≡ true
-sent_test n NoNumber sent h = eq-eqb sent 0 h
-sent_test n (SomeNumber v) sent h = and_both (lt-ltb v n (omega arith)) (and_both (le-leb _ _ h.0) (le-leb _ _ h.1))
+sent_test : (n : ℕ) (m : Option ℕ) (sent : ℕ) → SentInRange n m sent → sent_in_range n m sent ≡ true
+sent_test n None sent h = eq-eqb sent 0 h
+sent_test n (Some v) sent h = and_both (lt-ltb v n (omega arith)) (and_both (le-leb _ _ h.0) (le-leb _ _ h.1))
 
-adjustment_test : (m : OptNumber) (x : ℕ) → (m ≡ NoNumber → x ≡ 0) → (is_number m || eqb x 0) ≡ true
-adjustment_test NoNumber x f = eq-eqb x 0 (f refl)
-adjustment_test (SomeNumber v) x f = refl
+adjustment_test : (m : Option ℕ) (x : ℕ) → (m ≡ None → x ≡ 0) → (is_some m || eqb x 0) ≡ true
+adjustment_test None x f = eq-eqb x 0 (f refl)
+adjustment_test (Some v) x f = refl
 
 counts_fact : (r : HeadRecord) (p : ℕ) → reading_counts r p ≡ true → p ≢ r.own → fits_for r.vote.choice (kept_of r p) ≡ true
 unfolding reading_counts
@@ -181,7 +182,7 @@ in_range {r} e =
       own = ltb-true _ _ (search parts);
       last = ltb-true _ _ (search parts);
       adjustment = ltb-true _ _ (search parts);
-      unadjusted = λ u. or_cases (is_number r.adjust.choice) (eqb r.adjustment.0 0) (search parts) (λ t. absurd_bool t (rw u refl)) (eqb-true _ 0);
+      unadjusted = λ u. or_cases (is_some r.adjust.choice) (eqb r.adjustment.0 0) (search parts) (λ t. absurd_bool t (rw u refl)) (eqb-true _ 0);
       phase = for_both _ (sent_in_range_lem r.n r.vote.choice r.vote.sent (search parts depth 9)) (sent_in_range_lem r.n r.adjust.choice r.adjust.sent (search parts depth 9));
       early = for_both _ (implied r.vote.early _ (search parts depth 9)) (implied r.adjust.early _ (search parts depth 9));
       marks = record { confirmed = implied r.confirmed _ (search parts depth 9); turn = implied r.vote.turn _ (search parts depth 10); adjusting = implied (r.adjust.turn || r.adjust.closed) _ (search parts depth 10) };
@@ -201,17 +202,17 @@ range_test {r} h =
 -- THE VOTE READINGS
 
 -- what holds of each vote reading that is held holds of every number that the median is taken of
-pub every_vote_reading : (P : ℕ → Type 0) (r : HeadRecord) (k : ℕ) → ((p : ℕ) → p < k → (x : Reading) → vote_of r p ≡ SomeReading x → P x.0) → Every P (vote_readings r k)
+pub every_vote_reading : (P : ℕ → Type 0) (r : HeadRecord) (k : ℕ) → ((p : ℕ) → p < k → (x : Reading) → vote_of r p ≡ Some x → P x.0) → Every P (vote_readings r k)
 unfolding vote_readings
 every_vote_reading P r zero h = tt
 every_vote_reading P r (suc p) h = first (vote_of r p) (h p (omega arith)) (every_vote_reading P r p (λ q l. h q (omega arith)))
   where
-    first : (x : OptReading) → ((y : Reading) → x ≡ SomeReading y → P y.0) → Every P (vote_readings r p) → Every P (prepend x (vote_readings r p))
-    first NoReading h' e = e
-    first (SomeReading x) h' e = (h' x refl, e)
+    first : (x : Option Reading) → ((y : Reading) → x ≡ Some y → P y.0) → Every P (vote_readings r p) → Every P (prepend x (vote_readings r p))
+    first None h' e = e
+    first (Some x) h' e = (h' x refl, e)
 
 vote_readings_below : (r : HeadRecord) → ((p : ℕ) → KeptInRange r.n p (kept_of r p)) → Every (λ x. x < 2 ^ 28) (vote_readings r r.n)
-vote_readings_below r h = every_vote_reading (λ x. x < 2 ^ 28) r r.n (λ p l x e. subst (λ (y : OptReading). reading_or0 y < 2 ^ 28) e ((h p).below l).vote)
+vote_readings_below r h = every_vote_reading (λ x. x < 2 ^ 28) r r.n (λ p l x e. subst (λ (y : Option Reading). reading_or0 y < 2 ^ 28) e ((h p).below l).vote)
 
 -- AN EFFECT: first what is kept of the action
 
@@ -220,11 +221,11 @@ set_in_range : {n : ℕ} (l : List Sender) (p : ℕ) (s : Sender) → p < n → 
 set_in_range {n} l p s b h k = set_holds (KeptInRange n) l p s (record { below = λ _. h; above = λ a _. absurd (omega arith) }) k
 
 -- a reading that is dropped is in range
-kept_for_below : {n : ℕ} (v : OptNumber) (s : Sender) → SenderInRange n s → SenderInRange n (kept_for v s)
+kept_for_below : {n : ℕ} (v : Option ℕ) (s : Sender) → SenderInRange n s → SenderInRange n (kept_for v s)
 kept_for_below v s h =
     record {
       start = h.start;
-      vote = cond_elim (λ (y : OptReading). reading_or0 y < 2 ^ 28) (same_number s.candidate v) (λ _. h.vote) (λ _. omega arith);
+      vote = cond_elim (λ (y : Option Reading). reading_or0 y < 2 ^ 28) (same_number s.candidate v) (λ _. h.vote) (λ _. omega arith);
       serial = for_both _ (h.serial votes) (h.serial adjusts);
       latest = for_both _ (h.latest votes) (h.latest adjusts);
     }
@@ -232,7 +233,7 @@ kept_for_below v s h =
 dropped_in_range : {n : ℕ} (c : ℕ) (m : HeadRecord) → ((q : ℕ) → KeptInRange n q (kept_of m q)) → (q : ℕ) → KeptInRange n q (kept_of (drop_others c m) q)
 dropped_in_range {n} c m k q =
     subst (KeptInRange n q) (sym (kept_for_at c m q))
-    (record { below = λ b. kept_for_below (SomeNumber c) (kept_of m q) ((k q).below b); above = λ a b. ap (kept_for (SomeNumber c)) ((k q).above a b) })
+    (record { below = λ b. kept_for_below (Some c) (kept_of m q) ((k q).below b); above = λ a b. ap (kept_for (Some c)) ((k q).above a b) })
 
 kept_after_in_range : {r : HeadRecord} (p : ℕ) (x : Frame) → InRange r → p < r.n → FrameInRange r.n x → SenderInRange r.n (kept_after r p x)
 kept_after_in_range p NoFrame h b f = (h.kept p).below b
@@ -258,16 +259,16 @@ prepared_marks r AdjustClose o h = record { confirmed = h.confirmed; turn = h.tu
 
 -- WHICH VOTE READINGS COUNT
 
-kept_for_counts : (v : OptNumber) (k : Sender) → fits_for v (kept_for v k) ≡ true
+kept_for_counts : (v : Option ℕ) (k : Sender) → fits_for v (kept_for v k) ≡ true
 kept_for_counts v k =
-    cond_elim (λ (x : OptReading). (is_reading x ⇒ same_number k.candidate v) ≡ true) (same_number k.candidate v)
-    (λ t. implies (is_reading k.vote) _ (λ _. t)) (λ _. refl)
+    cond_elim (λ (x : Option Reading). (is_some x ⇒ same_number k.candidate v) ≡ true) (same_number k.candidate v)
+    (λ t. implies (is_some k.vote) _ (λ _. t)) (λ _. refl)
 
 -- a vote that is not adopted leaves the candidate
-stays_candidate : (c : ℕ) (v : OptNumber) → outranks c v ≡ false → candidate_after c v ≡ v
+stays_candidate : (c : ℕ) (v : Option ℕ) → outranks c v ≡ false → candidate_after c v ≡ v
 stays_candidate c v t = rw t refl
 
-counted_prepared : (r : HeadRecord) (a : Action) → Counted r → named_in votes (sending_of r a) ≡ NoNumber → Counted (prepared r a)
+counted_prepared : (r : HeadRecord) (a : Action) → Counted r → named_in votes (sending_of r a) ≡ None → Counted (prepared r a)
 counted_prepared r Look h e = h
 counted_prepared r StartSent h e = h
 counted_prepared r (StartDelivered p) h e = λ q l d. column_kept (fits_for r.vote.choice) r p Start q refl ∙ h q l d
@@ -275,37 +276,37 @@ counted_prepared r StartConfirmed h e = h
 counted_prepared r VoteTurn h e = h
 counted_prepared r (VoteDelivered p k c x) h e = go (passed_over votes r p k) (outranks c r.vote.choice) refl e
   where
-    held : OptNumber
+    held : Option ℕ
     held = r.vote.choice
 
-    go : (b o : Bool) → outranks c held ≡ o → named_in votes (cond b nothing (cond o (voting c) nothing)) ≡ NoNumber
+    go : (b o : Bool) → outranks c held ≡ o → named_in votes (cond b nothing (cond o (voting c) nothing)) ≡ None
         → (q : ℕ) → q < r.n → q ≢ r.own → fits_for held (get_or (cond b r.senders (set r.senders p (kept_after r p (Vote k c x)))) q no_sender) ≡ true
     go true o t u = h
     go false true t u = none_is_some (sym u)
     go false false t u =
         set_holds (λ q z. q < r.n → q ≢ r.own → fits_for held z ≡ true) r.senders p _
-        (λ _ _. subst (λ (v : OptNumber). fits_for held (kept_for v (keep_vote (kept_of r p) k c x)) ≡ true) (sym (stays_candidate c held t)) (kept_for_counts held (keep_vote (kept_of r p) k c x))) h
+        (λ _ _. subst (λ (v : Option ℕ). fits_for held (kept_for v (keep_vote (kept_of r p) k c x)) ≡ true) (sym (stays_candidate c held t)) (kept_for_counts held (keep_vote (kept_of r p) k c x))) h
 counted_prepared r VoteClose h e = h
 counted_prepared r AdjustTurn h e = h
 counted_prepared r (AdjustDelivered p k c x) h e = λ q l d. column_kept (fits_for r.vote.choice) r p (Adjust k c x) q refl ∙ h q l d
 counted_prepared r AdjustClose h e = h
 
 -- a vote makes them count, whatever was kept
-counted_send : (x : Sending) (m : HeadRecord) → (named_in votes x ≡ NoNumber → Counted m) → Counted (send x m).after
+counted_send : (x : Sending) (m : HeadRecord) → (named_in votes x ≡ None → Counted m) → Counted (send x m).after
 unfolding vote adjust
 counted_send nothing m h = h refl
 counted_send Effects.Sending.start m h = h refl
 counted_send (voting c) m h = λ p l d.
-    subst (λ (z : Sender). fits_for (SomeNumber c) z ≡ true) (sym (get_or-set_other (drop_others c m).senders m.own p _ no_sender d ∙ kept_for_at c m p)) (kept_for_counts (SomeNumber c) (kept_of m p))
+    subst (λ (z : Sender). fits_for (Some c) z ≡ true) (sym (get_or-set_other (drop_others c m).senders m.own p _ no_sender d ∙ kept_for_at c m p)) (kept_for_counts (Some c) (kept_of m p))
 counted_send (adjusting c x) m h = λ q l d. set_keeps (fits_for m.vote.choice) m.senders m.own q _ refl ∙ h refl q l d
 
 counted_effect : (r : HeadRecord) (a : Action) → Counted r → Counted (send (sending_of r a) (prepared r a)).after
 counted_effect r a h = counted_send (sending_of r a) (prepared r a) (counted_prepared r a h)
 
 -- one more frame for a choice that outranks the last
-chosen_in_range : (n c : ℕ) (m : OptNumber) (sent : ℕ) → c < n → outranks c m ≡ true → SentInRange n m sent → SentInRange n (SomeNumber c) (sent + 1)
-chosen_in_range n c NoNumber sent b o h = omega arith
-chosen_in_range n c (SomeNumber v) sent b o h = let l = ltb-true c v o in omega arith
+chosen_in_range : (n c : ℕ) (m : Option ℕ) (sent : ℕ) → c < n → outranks c m ≡ true → SentInRange n m sent → SentInRange n (Some c) (sent + 1)
+chosen_in_range n c None sent b o h = omega arith
+chosen_in_range n c (Some v) sent b o h = let l = ltb-true c v o in omega arith
 
 module _ {r : HeadRecord} (a : Action) (h : InRange r) (i : ActionInRange r.n a) (o : is_closed r a ≡ false) where
   prepared_kept : (q : ℕ) → KeptInRange r.n q (kept_of (prepared r a) q)
@@ -323,14 +324,14 @@ module _ {r : HeadRecord} (a : Action) (h : InRange r) (i : ActionInRange r.n a)
   -- then what the head says
   named_below : {k : Kind} {c : ℕ} → Why k r a c → c < r.n
   named_below (itself e _ _) = subst (λ (v : ℕ). v < r.n) (sym e) h.own
-  named_below (told _ e) = subst (λ (v : OptNumber). number_or0 v < r.n) e i.frame.choice
+  named_below (told _ e) = subst (λ (v : Option ℕ). unwrap_or v 0 < r.n) e i.frame.choice
 
-  allowed_in_range : (k : Kind) {c : ℕ} → Naming k r a c → SentInRange r.n (SomeNumber c) ((phase_of k r).sent + 1)
+  allowed_in_range : (k : Kind) {c : ℕ} → Naming k r a c → SentInRange r.n (Some c) ((phase_of k r).sent + 1)
   allowed_in_range k {c} s = chosen_in_range r.n c (phase_of k r).choice (phase_of k r).sent (named_below s.why) s.higher (h.phase k)
 
   source_below : {x : Reading} → Source r a x → x.0 < 2 ^ 28
   source_below (computed _ e) = subst (λ (y : Reading). y.0 < 2 ^ 28) (sym e) (median_below (2 ^ 28) _ (lit< tt) (vote_readings_below (prepared r a) prepared_kept))
-  source_below (passed_on _ e) = subst (λ (y : OptReading). reading_or0 y < 2 ^ 28) e i.frame.reading
+  source_below (passed_on _ e) = subst (λ (y : Option Reading). reading_or0 y < 2 ^ 28) e i.frame.reading
 
   send_in_range : {x : Sending} → Allowed r a x → Counted (send x (prepared r a)).after → AnswerInRange r.n (send x (prepared r a))
   unfolding vote adjust
@@ -410,7 +411,7 @@ input_in_range n i e =
     let choice = ltb-true i.choice n (search parts depth 8) in
     let carried = ltb-true i.carried (2 ^ 28) (search parts depth 8) in
     let plain : DeliveryInRange n no_delivery = omega arith in
-    let or_none : reading_or0 (cond i.none NoReading (SomeReading (reading i.carried))) < 2 ^ 28 = cond_elim (λ (x : OptReading). reading_or0 x < 2 ^ 28) i.none (λ _. omega arith) (λ _. carried) in
+    let or_none : reading_or0 (cond i.none None (Some (reading i.carried))) < 2 ^ 28 = cond_elim (λ (x : Option Reading). reading_or0 x < 2 ^ 28) i.none (λ _. omega arith) (λ _. carried) in
     let each : Every (ActionInRange n) (actions_of i) = (plain, (plain, (omega arith, (plain, (plain, (omega arith, (plain, (plain, (omega arith, (plain, tt)))))))))) in
     (ltb-true i.reading (2 ^ 28) (search parts), every_at (ActionInRange n) (actions_of i) i.action (λ _. plain) each)
 
@@ -432,8 +433,8 @@ fresh_facts : (n f : ℕ) {q : ℕ} → heads_fit n f ≡ true → q < n → InR
 unfolding fresh
 fresh_facts n f {q} e b =
     let heads = heads_fit_lem n f e in
-    let none : (p : ℕ) → p < n → p ≢ q → fits_for NoNumber (get_or (replicate 16 no_sender) p no_sender) ≡ true =
-    λ p l _. ap (fits_for NoNumber) (get_or-replicate 16 p no_sender no_sender (omega arith)) in
+    let none : (p : ℕ) → p < n → p ≢ q → fits_for None (get_or (replicate 16 no_sender) p no_sender) ≡ true =
+    λ p l _. ap (fits_for None) (get_or-replicate 16 p no_sender no_sender (omega arith)) in
     record { heads = heads; own = b; last = lit< tt; adjustment = lit< tt; unadjusted = λ _. refl; phase = for_both _ refl refl; early = for_both _ (λ t. t) (λ t. t); marks = record { confirmed = λ t. t; turn = λ t. t; adjusting = λ t. t }; kept = λ p. none_in_range n p heads.1; counted = none }
 
 pub fresh_in_range : (n f q : ℕ) → heads_fit n f ≡ true → q < n → record_in_range (fresh n f q) ≡ true
@@ -445,9 +446,9 @@ or_else_in_range Start y a b = a
 or_else_in_range (Vote j c x) y a b = a
 or_else_in_range (Adjust j c x) y a b = a
 
-sent_below : (n : ℕ) (m : OptNumber) (sent : ℕ) → SentInRange n m sent → sent ≤ n
-sent_below n NoNumber sent h = omega arith
-sent_below n (SomeNumber v) sent h = omega arith
+sent_below : (n : ℕ) (m : Option ℕ) (sent : ℕ) → SentInRange n m sent → sent ≤ n
+sent_below n None sent h = omega arith
+sent_below n (Some v) sent h = omega arith
 
 -- both together, since a record is in range by the frames that reach it
 record RunInRange (g : Setting) (h : History) : Type 0 where

@@ -1,6 +1,7 @@
 -- What a replay's result words say of a head is what its record says, so the third point holds of the words.
 -- Main results: `says` (a head's words read back), `result_at` (where they stand), `words_say` (the ending of a head that has a clock),
 -- `filled` (what a replay leaves), `third_point_in_words`.
+use Rattle.std.specs.Prelude.{Option, Some, None, is_some, unwrap_or}
 use mathlib.Core.Path.{◌≡◌, refl, sym, ◌∙◌, ap, subst}
 use mathlib.Core.Bool.{Bool, true, false, ◌&&◌}
 use mathlib.Core.List.{List, ◌++◌}
@@ -10,9 +11,9 @@ use lib.ListN.{length, get_or, drop}
 use lib.Dec.{eqb, lit<}
 use borrow.Author.Tests.{le-ltb}
 use lib.IntN.{sub_ℕ}
-use Rattle.protocol.specs.Types.{OptNumber, NoNumber, SomeNumber, HeadRecord, Setting, Verdict, Accepted, Refused, Filled}
+use Rattle.protocol.specs.Types.{HeadRecord, Setting, Verdict, Accepted, Refused, Filled}
 use Rattle.protocol.specs.Words.{bits, kind_of, time_of, setting_at, entry_count}
-use Rattle.protocol.specs.Record.{is_reading, is_number, reading_or0, number_or0, start_of_choice, chosen_start, outcome, correction, mark_number}
+use Rattle.protocol.specs.Record.{reading_or0, start_of_choice, chosen_start, outcome, correction, mark_number}
 use Rattle.protocol.specs.Causes.{sheet_verdict}
 use Rattle.protocol.specs.Run.{History, record_of, ran, run_of, after_verdict, run_sheet}
 use Rattle.protocol.specs.Results.{if_adopted, outcome_word, adjustment_word, start_word, frames_word, words_per_head, head_words, words_from, result_words, Replay, fill_after, replay}
@@ -27,27 +28,27 @@ use Rattle.protocol.proofs.ThirdPoint.{third_point}
 -- THE FIELDS OF A WORD
 
 -- what a head's words are made of is within its field
-pub number_below : (n : ℕ) (m : OptNumber) (sent : ℕ) → n ≤ 16 → SentInRange n m sent → number_or0 m < 16
-number_below n NoNumber sent l h = omega arith
-number_below n (SomeNumber v) sent l h = omega arith
+pub number_below : (n : ℕ) (m : Option ℕ) (sent : ℕ) → n ≤ 16 → SentInRange n m sent → unwrap_or m 0 < 16
+number_below n None sent l h = omega arith
+number_below n (Some v) sent l h = omega arith
 
-pub sent_below : (n : ℕ) (m : OptNumber) (sent : ℕ) → n ≤ 16 → SentInRange n m sent → sent < 256
-sent_below n NoNumber sent l h = omega arith
-sent_below n (SomeNumber v) sent l h = omega arith
+pub sent_below : (n : ℕ) (m : Option ℕ) (sent : ℕ) → n ≤ 16 → SentInRange n m sent → sent < 256
+sent_below n None sent l h = omega arith
+sent_below n (Some v) sent l h = omega arith
 
 pub mark_below : (b : Bool) → mark_number b 1 < 256
 mark_below true = omega arith
 mark_below false = omega arith
 
-pub start_below : (r : HeadRecord) (m : OptNumber) → InRange r → SentInRange r.n m r.vote.sent → reading_or0 (start_of_choice r m) < 2 ^ 28
-start_below r NoNumber i h = omega arith
-start_below r (SomeNumber v) i h = ((i.kept v).below (omega arith)).start
+pub start_below : (r : HeadRecord) (m : Option ℕ) → InRange r → SentInRange r.n m r.vote.sent → reading_or0 (start_of_choice r m) < 2 ^ 28
+start_below r None i h = omega arith
+start_below r (Some v) i h = ((i.kept v).below (omega arith)).start
 
 pub outcome_below : (r : HeadRecord) → outcome r < 3
 unfolding outcome
 outcome_below r =
     cond_elim (λ (o : ℕ). o < 3) r.adjust.closed
-    (λ _. cond_elim (λ (o : ℕ). o < 3) (is_reading (chosen_start r) && is_number r.adjust.choice) (λ _. omega arith) (λ _. omega arith)) (λ _. omega arith)
+    (λ _. cond_elim (λ (o : ℕ). o < 3) (is_some (chosen_start r) && is_some r.adjust.choice) (λ _. omega arith) (λ _. omega arith)) (λ _. omega arith)
 
 pub adopted_below : (r : HeadRecord) (x b : ℕ) → 0 < b → x < b → if_adopted r x < b
 adopted_below r x b z h = cond_elim (λ (y : ℕ). y < b) (eqb (outcome r) 2) (λ _. h) (λ _. z)
@@ -55,8 +56,8 @@ adopted_below r x b z h = cond_elim (λ (y : ℕ). y < b) (eqb (outcome r) 2) (�
 -- a head's words, read back
 pub record Says (q : ℕ) (r : HeadRecord) : Type 0 where
   pub outcome_is : bits (outcome_word q r) 27 24 ≡ outcome r
-  pub candidate_is : bits (outcome_word q r) 19 16 ≡ if_adopted r (number_or0 r.vote.choice)
-  pub adjuster_is : bits (outcome_word q r) 15 12 ≡ if_adopted r (number_or0 r.adjust.choice)
+  pub candidate_is : bits (outcome_word q r) 19 16 ≡ if_adopted r (unwrap_or r.vote.choice 0)
+  pub adjuster_is : bits (outcome_word q r) 15 12 ≡ if_adopted r (unwrap_or r.adjust.choice 0)
   pub adjustment_is : time_of (adjustment_word r) ≡ if_adopted r r.adjustment.0
   pub start_is : time_of (start_word r) ≡ if_adopted r (reading_or0 (chosen_start r))
   pub starts_is : bits (frames_word r) 27 20 ≡ mark_number r.started 1
@@ -83,10 +84,10 @@ says q r l i =
     outcomes : outcome r < 16
     outcomes = let o = outcome_below r in omega arith
 
-    candidate : if_adopted r (number_or0 r.vote.choice) < 16
+    candidate : if_adopted r (unwrap_or r.vote.choice 0) < 16
     candidate = adopted_below r _ 16 (lit< tt) (number_below r.n r.vote.choice r.vote.sent i.heads.1 (i.phase votes))
 
-    adjuster : if_adopted r (number_or0 r.adjust.choice) < 16
+    adjuster : if_adopted r (unwrap_or r.adjust.choice 0) < 16
     adjuster = adopted_below r _ 16 (lit< tt) (number_below r.n r.adjust.choice r.adjust.sent i.heads.1 (i.phase adjusts))
 
     adjustment : if_adopted r r.adjustment.0 < 2 ^ 28

@@ -2,6 +2,7 @@
 -- first correct close of the phase, and that nothing changes a correct head's choice from then on. If a head does, the
 -- lemma of document 02 No. 4 says that all heads have its choice. All of it is said once, over the phase.
 -- Main results: `first_close`, `reaches`, `same_choice`, `agreed`.
+use Rattle.std.specs.Prelude.{Some}
 use mathlib.Core.Path.{◌≡◌, refl, sym, ◌∙◌, ap}
 use mathlib.Core.Bool.{Bool, true, false, not, ◌&&◌, ◌||◌}
 use mathlib.Core.List.{List, [], ◌∷◌}
@@ -10,7 +11,7 @@ use native.Mathlib.Omega.{arith}
 use lib.Dec.{ltb, eqb}
 use borrow.Author.Tests.{eqb-true, eqb-false, eq-eqb, ne_eqb, leb-true, ltb-true, lt-ltb}
 use Rattle.protocol.specs.Base.{◌⇒◌, any, all, count_below}
-use Rattle.protocol.specs.Types.{SomeNumber, Setting, Kept}
+use Rattle.protocol.specs.Types.{Setting, Kept}
 use Rattle.protocol.specs.Words.{is_correct}
 use Rattle.protocol.specs.Run.{Event, History, record_of}
 use Rattle.protocol.specs.Premises.{takes, took, received, before, correct_all, correct_takes, correct_closes, premise1, premise2, premise3, premise4, premise5, premise6, premise7, premise8, premises, frames_reached, votes_reached, adjusts_reached, none_between, first_broken, is_early}
@@ -189,7 +190,7 @@ module _ {g : Setting} {h : History} (r : Round g h) (k : Kind) (late : Late r k
   reaches {p} cp cq d j l = reached_at r k late (moment r k) p (all_reached r k late cp) j l cq d
 
   -- (b) two correct heads that have a choice then have the same
-  pub same_choice : {p q : ℕ} → CorrectHead g p → CorrectHead g q → (c w : ℕ) → held g k (moment r k) p ≡ SomeNumber c → held g k (moment r k) q ≡ SomeNumber w → c ≡ w
+  pub same_choice : {p q : ℕ} → CorrectHead g p → CorrectHead g q → (c w : ℕ) → held g k (moment r k) p ≡ Some c → held g k (moment r k) q ≡ Some w → c ≡ w
   same_choice {p} {q} cp cq c w hp hq =
       cases (eqb p q) (λ t. same_number_lem (sym hp ∙ ap (held g k (moment r k)) (eqb-true p q t) ∙ hq))
       (λ d. agree g k r.sheet.at_most_16 (valid_moment r k late) p q c w hp hq
@@ -217,32 +218,32 @@ module _ {g : Setting} {h : History} (r : Round g h) (k : Kind) (late : Late r k
       absurd_bool begun (not_true here))
 
   -- (c) A CHOICE THAT EVERY CORRECT HEAD HAS AT THE FIRST CLOSE STAYS
-  module _ (has : (q : ℕ) → CorrectHead g q → (c : ℕ) × (held g k (moment r k) q ≡ SomeNumber c)) where
+  module _ (has : (q : ℕ) → CorrectHead g q → (c : ℕ) × (held g k (moment r k) q ≡ Some c)) where
     chosen : ℕ
     chosen = (has (some_correct r).0 (some_correct r).1).0
 
     Settled : History → Type 0
-    Settled s = (q : ℕ) → CorrectHead g q → held g k s q ≡ SomeNumber chosen
+    Settled s = (q : ℕ) → CorrectHead g q → held g k s q ≡ Some chosen
 
     settled_first : Settled (moment r k)
     unfolding Settled chosen
     settled_first q c =
         let x = has q c in
         let y = some_correct r in
-        x.1 ∙ ap (λ (z : ℕ). SomeNumber z) (same_choice c y.1 x.0 _ x.1 (has y.0 y.1).1)
+        x.1 ∙ ap (λ (z : ℕ). Some z) (same_choice c y.1 x.0 _ x.1 (has y.0 y.1).1)
 
     settled_step : {s : History} {e : Event} → Settled s → Taken g s e → Valid g s → (CorrectHead g e.entry.head → e.entry.action ≡ delivery k → is_over g k s e.entry.head ≡ true)
         → Settled (e ∷ s)
     unfolding Settled
     settled_step {s} {e} z t v finds q =
-        by_head (λ q. CorrectHead g q → held g k (e ∷ s) q ≡ SomeNumber chosen) e q (λ c. go c (turn g k t v))
+        by_head (λ q. CorrectHead g q → held g k (e ∷ s) q ≡ Some chosen) e q (λ c. go c (turn g k t v))
         (λ d c. held_other g k e s q d ∙ z q c)
       where
         silent : (x : SendsOne g k s e) → CorrectHead g e.entry.head → Origin g k s e x.choice → ⊥
         silent x c (own is none tu) = none_is_some (sym none ∙ z e.entry.head c)
         silent x c (reached a n) = absurd_bool (finds c a) x.was_open
 
-        go : CorrectHead g e.entry.head → Turn g k s e → held g k (e ∷ s) e.entry.head ≡ SomeNumber chosen
+        go : CorrectHead g e.entry.head → Turn g k s e → held g k (e ∷ s) e.entry.head ≡ Some chosen
         go c (sends_none x) = x.held_same ∙ z e.entry.head c
         go c (sends_one x) = absurd (silent x c x.origin)
 
@@ -264,11 +265,11 @@ module _ {g : Setting} {h : History} (r : Round g h) (k : Kind) (late : Late r k
 
 pub record Agreed (g : Setting) (h : History) (k : Kind) : Type 0 where
   pub choice : ℕ
-  pub holds : {q : ℕ} → CorrectHead g q → held g k h q ≡ SomeNumber choice
+  pub holds : {q : ℕ} → CorrectHead g q → held g k h q ≡ Some choice
 
 module _ {g : Setting} {h : History} (r : Round g h) (k : Kind) where
   -- if a head has closed early, by the lemma; else by the closes, at the first of which every correct head has one
-  pub agreed : ((late : Late r k) (q : ℕ) → CorrectHead g q → (c : ℕ) × (held g k (moment r k) q ≡ SomeNumber c)) → Agreed g h k
+  pub agreed : ((late : Late r k) (q : ℕ) → CorrectHead g q → (c : ℕ) × (held g k (moment r k) q ≡ Some c)) → Agreed g h k
   unfolding Settled
   agreed has =
       cases (ltb 0 (count_below g.n (is_early g k h)))

@@ -1,6 +1,7 @@
 -- A run, one entry on; and the frames that were sent, told by their sender's record: its start by the mark "start sent", its votes
 -- and adjusts by how many it sent, since their serials count them.
 -- Main results: `goes_on`, `stops`, `stays_stopped`, `does_act`; `start_sent`, `sent_below`, `sent_now`, `sent_before`.
+use Rattle.std.specs.Prelude.{Option, Some, None, is_some}
 use mathlib.Core.Path.{◌≡◌, refl, sym, ◌∙◌, ap, subst}
 use mathlib.Core.Bool.{Bool, true, false, cond, not, ◌&&◌, ◌||◌}
 use mathlib.Core.List.{List, [], ◌∷◌}
@@ -8,10 +9,10 @@ use Prim.Native.Nat.{ℕ, zero, suc, ◌+◌, ◌<◌}
 use native.Mathlib.Omega.{arith}
 use lib.Dec.{ltb, eqb}
 use borrow.Author.Tests.{eqb-true, eqb-false, lt-ltb, le-ltb, ltb-true}
-use Rattle.protocol.specs.Types.{OptNumber, NoNumber, SomeNumber, Phase, HeadRecord, Setting, Entry, Cause, Accepted, Refused, Stepped, Frame, NoFrame, Start, Vote, Adjust}
+use Rattle.protocol.specs.Types.{Phase, HeadRecord, Setting, Entry, Cause, Accepted, Refused, Stepped, Frame, NoFrame, Start, Vote, Adjust}
 use Rattle.protocol.specs.Types.{Action, Look, StartSent, StartDelivered, StartConfirmed, VoteTurn, VoteDelivered, VoteClose, AdjustTurn, AdjustDelivered, AdjustClose}
 use Rattle.protocol.specs.Words.{has_sender, setting_at, place_of, entry_at, entry_fits_at}
-use Rattle.protocol.specs.Record.{is_number, fresh}
+use Rattle.protocol.specs.Record.{fresh}
 use Rattle.protocol.specs.Step.{with_last, vote, adjust, may_lead, may_adjust, outranks, act, taken_as, is_closed, take_action, action_of}
 use Rattle.protocol.specs.Run.{Event, History, record_of, is_delivered_by, or_else, frame_sent, frame_of, is_frame, input_of, last_time, step_entry, stopped, ran, and_then, run_of}
 use Rattle.protocol.proofs.Tests.{absurd_bool, cases, cond_elim, eqb_same}
@@ -129,7 +130,7 @@ module _ (g : Setting) where
 
 module _ (g : Setting) (k : Kind) where
   -- each serial below the number of frames sent has its frame
-  named_below : {s : History} → Valid g s → (p j : ℕ) → j < sent g k s p → is_number (names g k s p j) ≡ true
+  named_below : {s : History} → Valid g s → (p j : ℕ) → j < sent g k s p → is_some (names g k s p j) ≡ true
   unfolding record_of fresh
   named_below start p j = λ h. absurd (none_sent k h)
     where
@@ -137,29 +138,29 @@ module _ (g : Setting) (k : Kind) where
       none_sent votes h = omega arith
       none_sent adjusts h = omega arith
   named_below (more {e = e} {s = s} t v) p j =
-      by_head (λ p. j < sent g k (e ∷ s) p → is_number (names g k (e ∷ s) p j) ≡ true) e p
+      by_head (λ p. j < sent g k (e ∷ s) p → is_some (names g k (e ∷ s) p j) ≡ true) e p
       (at_head (turn g k t v) (named_below v e.entry.head j))
-      (λ d h. ap is_number (names_other g k e s p j d) ∙ named_below v p j (subst (λ (i : ℕ). j < i) (sent_other g k e s p d) h))
+      (λ d h. ap is_some (names_other g k e s p j d) ∙ named_below v p j (subst (λ (i : ℕ). j < i) (sent_other g k e s p d) h))
     where
-      kept : (m n : OptNumber) → is_number m ≡ true → is_number (or_number m n) ≡ true
-      kept NoNumber n h = absurd_bool h refl
-      kept (SomeNumber c) n h = refl
+      kept : (m n : Option ℕ) → is_some m ≡ true → is_some (or_number m n) ≡ true
+      kept None n h = absurd_bool h refl
+      kept (Some c) n h = refl
 
-      added : (m : OptNumber) (c : ℕ) → is_number (or_number m (SomeNumber c)) ≡ true
-      added NoNumber c = refl
-      added (SomeNumber d) c = refl
+      added : (m : Option ℕ) (c : ℕ) → is_some (or_number m (Some c)) ≡ true
+      added None c = refl
+      added (Some d) c = refl
 
-      at_head : Turn g k s e → (j < sent g k s e.entry.head → is_number (names g k s e.entry.head j) ≡ true)
-          → j < sent g k (e ∷ s) e.entry.head → is_number (names g k (e ∷ s) e.entry.head j) ≡ true
-      at_head (sends_none z) ih h = ap is_number (z.names_same j) ∙ ih (subst (λ (i : ℕ). j < i) z.sent_same h)
+      at_head : Turn g k s e → (j < sent g k s e.entry.head → is_some (names g k s e.entry.head j) ≡ true)
+          → j < sent g k (e ∷ s) e.entry.head → is_some (names g k (e ∷ s) e.entry.head j) ≡ true
+      at_head (sends_none z) ih h = ap is_some (z.names_same j) ∙ ih (subst (λ (i : ℕ). j < i) z.sent_same h)
       at_head (sends_one z) ih h =
-          ap is_number (z.names_new j)
+          ap is_some (z.names_new j)
           ∙ cases (eqb (sent g k s e.entry.head) j)
           (λ t. rw t (added (names g k s e.entry.head j) z.choice))
           (λ t. kept (names g k s e.entry.head j) _ (ih (let x = z.sent_new in let y = eqb-false (sent g k s e.entry.head) j t in omega arith)))
 
   -- a frame of the phase names somebody
-  named_frame : (j : ℕ) (x : Frame) → (is_frame x ≡ true → is_delivered_by (delivery k) j x ≡ true) → is_number (named x) ≡ is_frame x
+  named_frame : (j : ℕ) (x : Frame) → (is_frame x ≡ true → is_delivered_by (delivery k) j x ≡ true) → is_some (named x) ≡ is_frame x
   named_frame j NoFrame h = refl
   named_frame j Start h = absurd_bool (h refl) (no_start k)
     where
@@ -172,7 +173,7 @@ module _ (g : Setting) (k : Kind) where
   -- the serials below the number of frames sent are those under which the head sent a frame
   pub sent_below : {s : History} → Valid g s → (p j : ℕ) → ltb j (sent g k s p) ≡ is_frame (frame_sent s (delivery k) p j)
   sent_below {s} v p j =
-      cases (is_number (names g k s p j))
+      cases (is_some (names g k s p j))
       (λ t. let c = some_number (names g k s p j) t in lt-ltb j (sent g k s p) (serial_below g k v p j c.0 c.1) ∙ sym t)
       (λ t. cases (ltb j (sent g k s p)) (λ u. absurd_bool (named_below v p j (ltb-true j (sent g k s p) u)) t) (λ u. u ∙ sym t))
       ∙ named_frame j (frame_sent s (delivery k) p j) (frame_fits s (delivery k) p j)

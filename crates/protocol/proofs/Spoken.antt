@@ -4,6 +4,7 @@
 -- before or after; not after, since a choice only falls, and not before, since a head with a choice does not begin to name
 -- itself. What a head keeps as the latest frame of another is one that the other has sent.
 -- Main results, over the phase: `nobody_below`, `all_hold`, `early_unanimous`, `early_holds`, `delivered_holds`.
+use Rattle.std.specs.Prelude.{Option, Some, None}
 use mathlib.Core.Path.{◌≡◌, refl, sym, ◌∙◌, ap, subst}
 use mathlib.Core.Bool.{Bool, true, false, cond, not, ◌&&◌}
 use mathlib.Core.List.{◌∷◌}
@@ -12,7 +13,7 @@ use native.Mathlib.Omega.{arith}
 use lib.Dec.{eqb}
 use lib.ListN.{length, get_or, replicate}
 use borrow.Author.Tests.{eqb-true}
-use Rattle.protocol.specs.Types.{OptNumber, NoNumber, SomeNumber, Sender, HeadRecord, Setting, Frame}
+use Rattle.protocol.specs.Types.{Sender, HeadRecord, Setting, Frame}
 use Rattle.protocol.specs.Record.{no_sender, kept_of, same_number, fresh}
 use Rattle.protocol.specs.Step.{all_spoken, is_tested}
 use Rattle.protocol.specs.Run.{Event, History, record_of, frame_sent, frame_of}
@@ -36,7 +37,7 @@ module _ (g : Setting) (k : Kind) where
   nobody_below {v = v} w u p c x = let y = sent_itself g k w p c x in own_first g k w c v (u c (sender_below g k w c c y)) y
 
   -- and all n heads have the choice v
-  pub all_hold : {s : History} {v : ℕ} → Valid g s → Unanimous s v → (q : ℕ) → q < g.n → held g k s q ≡ SomeNumber v
+  pub all_hold : {s : History} {v : ℕ} → Valid g s → Unanimous s v → (q : ℕ) → q < g.n → held g k s q ≡ Some v
   all_hold {v = v} w u q l =
       let a = sent_at_most g k w q v (u q l) in
       let j = held_sent g k w q a.choice a.holds in
@@ -44,19 +45,19 @@ module _ (g : Setting) (k : Kind) where
       let low = nobody_below w u q f.choice (j.0, f.names_it) in
       let is = same_number_lem (sym a.holds ∙ f.holds) in
       let high = a.low in
-      a.holds ∙ ap (λ (c : ℕ). SomeNumber c) (omega arith)
+      a.holds ∙ ap (λ (c : ℕ). Some c) (omega arith)
 
   module _ (small : g.n ≤ 16) where
     -- whom a latest frame of p names, p has named
-    pub latest_sent : {s : History} → Valid g s → (q p c : ℕ) → latest_of k (kept_of (record_of g s q) p) ≡ SomeNumber c → SentFor g k s p c
+    pub latest_sent : {s : History} → Valid g s → (q p c : ℕ) → latest_of k (kept_of (record_of g s q) p) ≡ Some c → SentFor g k s p c
     unfolding record_of fresh
     latest_sent start q p c = λ h. absurd (nothing_kept k h)
       where
-        nothing_kept : (k : Kind) → latest_of k (get_or (replicate 16 no_sender) p no_sender) ≡ SomeNumber c → ⊥
-        nothing_kept votes h = none_is_some (subst (λ (y : Sender). y.candidate ≡ SomeNumber c) (no_senders 16 p) h)
-        nothing_kept adjusts h = none_is_some (subst (λ (y : Sender). y.adjuster ≡ SomeNumber c) (no_senders 16 p) h)
+        nothing_kept : (k : Kind) → latest_of k (get_or (replicate 16 no_sender) p no_sender) ≡ Some c → ⊥
+        nothing_kept votes h = none_is_some (subst (λ (y : Sender). y.candidate ≡ Some c) (no_senders 16 p) h)
+        nothing_kept adjusts h = none_is_some (subst (λ (y : Sender). y.adjuster ≡ Some c) (no_senders 16 p) h)
     latest_sent (more {e = e} {s = s} t v) q p c =
-        by_head (λ q. latest_of k (kept_of (record_of g (e ∷ s) q) p) ≡ SomeNumber c → SentFor g k (e ∷ s) p c) e q
+        by_head (λ q. latest_of k (kept_of (record_of g (e ∷ s) q) p) ≡ Some c → SentFor g k (e ∷ s) p c) e q
         (at_head (λ i. latest_sent v e.entry.head p c i))
         (λ d h. sent_stays g k t v p c (latest_sent v q p c (ap (λ (r : HeadRecord). latest_of k (kept_of r p)) (sym (record_other g e s q d)) ∙ h)))
       where
@@ -66,27 +67,27 @@ module _ (g : Setting) (k : Kind) where
         x : Frame
         x = frame_of s e.entry
 
-        Sent : OptNumber → Type 0
-        Sent m = m ≡ SomeNumber c → SentFor g k (e ∷ s) p c
+        Sent : Option ℕ → Type 0
+        Sent m = m ≡ Some c → SentFor g k (e ∷ s) p c
 
         -- of a frame that is taken
-        taken : (latest_of k (kept_of r p) ≡ SomeNumber c → SentFor g k s p c) → eqb e.entry.sender p ≡ true → (b : Bool) → eqb (delivered_by x) (delivery k) ≡ b
-            → cond b (named x) (latest_of k (kept_of r e.entry.sender)) ≡ SomeNumber c → SentFor g k s p c
+        taken : (latest_of k (kept_of r p) ≡ Some c → SentFor g k s p c) → eqb e.entry.sender p ≡ true → (b : Bool) → eqb (delivered_by x) (delivery k) ≡ b
+            → cond b (named x) (latest_of k (kept_of r e.entry.sender)) ≡ Some c → SentFor g k s p c
         taken ih d true u h = (
           e.entry.serial,
-          subst (λ (z : ℕ). names g k s z e.entry.serial ≡ SomeNumber c) (eqb-true _ p d)
-              (subst (λ (a : ℕ). named (frame_sent s a e.entry.sender e.entry.serial) ≡ SomeNumber c) (phase_of_frame g k t u) h),
+          subst (λ (z : ℕ). names g k s z e.entry.serial ≡ Some c) (eqb-true _ p d)
+              (subst (λ (a : ℕ). named (frame_sent s a e.entry.sender e.entry.serial) ≡ Some c) (phase_of_frame g k t u) h),
         )
-        taken ih d false u h = ih (subst (λ (z : ℕ). latest_of k (kept_of r z) ≡ SomeNumber c) (eqb-true _ p d) h)
+        taken ih d false u h = ih (subst (λ (z : ℕ). latest_of k (kept_of r z) ≡ Some c) (eqb-true _ p d) h)
 
-        kept : (latest_of k (kept_of r p) ≡ SomeNumber c → SentFor g k s p c) → (i d : Bool) → eqb e.entry.sender p ≡ d
-            → latest_of k (cond (not i && d) (kept_after r e.entry.sender x) (kept_of r p)) ≡ SomeNumber c → SentFor g k s p c
+        kept : (latest_of k (kept_of r p) ≡ Some c → SentFor g k s p c) → (i d : Bool) → eqb e.entry.sender p ≡ d
+            → latest_of k (cond (not i && d) (kept_after r e.entry.sender x) (kept_of r p)) ≡ Some c → SentFor g k s p c
         kept ih true d u h = ih h
         kept ih false false u h = ih h
         kept ih false true u h = taken ih u _ refl (sym (latest_after k r e.entry.sender x) ∙ h)
 
         -- of the head's own frame
-        said : (w : ℕ) → named_in k (sending_at g k t) ≡ SomeNumber w → p ≡ (prepared_at g k t).own → Sent (SomeNumber w)
+        said : (w : ℕ) → named_in k (sending_at g k t) ≡ Some w → p ≡ (prepared_at g k t).own → Sent (Some w)
         said w u o h =
             subst (λ (z : ℕ). SentFor g k (e ∷ s) z c) (sym (o ∙ (fixed g v e.entry.head).own_is))
             (sent g k s e.entry.head, names_at g k t (sent g k s e.entry.head) ∙ rw (unsent g k v e.entry.head, u, eqb_same (sent g k s e.entry.head)) h)
@@ -94,7 +95,7 @@ module _ (g : Setting) (k : Kind) where
         fits : e.entry.sender < length r.senders
         fits = rw (fixed g v e.entry.head).size_is (let z = t.sender_below in omega arith)
 
-        at_head : (latest_of k (kept_of r p) ≡ SomeNumber c → SentFor g k s p c) → Sent (latest_of k (kept_of (record_of g (e ∷ s) e.entry.head) p))
+        at_head : (latest_of k (kept_of r p) ≡ Some c → SentFor g k s p c) → Sent (latest_of k (kept_of (record_of g (e ∷ s) e.entry.head) p))
         at_head ih =
             subst (λ (z : HeadRecord). Sent (latest_of k (kept_of z p))) (sym (record_at g e s)) (of_effect g (λ y. Sent (latest_of k (kept_of y.after p))) t
             (latest_said k Sent (sending_at g k t) (prepared_at g k t) p
@@ -120,10 +121,10 @@ module _ (g : Setting) (k : Kind) where
         still : (v : ℕ) × Unanimous s v → (v : ℕ) × Unanimous (e ∷ s) v
         still u = (u.0, unanimous_stays t w u.1)
 
-        latest : ℕ → OptNumber
+        latest : ℕ → Option ℕ
         latest p = latest_of k (kept_of (record_of g (e ∷ s) e.entry.head) p)
 
-        choice : OptNumber
+        choice : Option ℕ
         choice = held g k (e ∷ s) e.entry.head
 
         -- the test that closes the phase
@@ -144,15 +145,15 @@ module _ (g : Setting) (k : Kind) where
             )
 
     -- so a head that has closed the phase early has a choice
-    pub early_holds : {s : History} → Valid g s → (q : ℕ) → q < g.n → is_early g k s q ≡ true → (v : ℕ) × (held g k s q ≡ SomeNumber v)
+    pub early_holds : {s : History} → Valid g s → (q : ℕ) → q < g.n → is_early g k s q ≡ true → (v : ℕ) × (held g k s q ≡ Some v)
     early_holds w q l u = let x = early_unanimous w q u in (x.0, all_hold w x.1 q l)
 
     -- and one without a choice has not
-    pub none_early : {s : History} → Valid g s → (q : ℕ) → q < g.n → held g k s q ≡ NoNumber → is_early g k s q ≡ false
+    pub none_early : {s : History} → Valid g s → (q : ℕ) → q < g.n → held g k s q ≡ None → is_early g k s q ≡ false
     none_early {s} w q l u = cases (is_early g k s q) (λ t. none_is_some (sym u ∙ (early_holds w q l t).1)) (λ t. t)
 
     -- a head that was delivered a frame of the phase has a choice, unless it closed the phase by entry before
-    pub delivered_holds : {s : History} → Valid g s → (q : ℕ) → q < g.n → took (delivery k) q s ≡ true → took (closing k) q s ≡ false → (c : ℕ) × (held g k s q ≡ SomeNumber c)
+    pub delivered_holds : {s : History} → Valid g s → (q : ℕ) → q < g.n → took (delivery k) q s ≡ true → took (closing k) q s ≡ false → (c : ℕ) × (held g k s q ≡ Some c)
     delivered_holds {s} w q l h o =
         cases (is_early g k s q) (early_holds w q l)
         (λ t. delivered_choice g k small w q h (closed_took g k w q ∙ rw o t))

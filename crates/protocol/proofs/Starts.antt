@@ -1,6 +1,7 @@
 -- Start readings, and who may become a candidate: the start reading of v is that of v's last delivered start; a head that
 -- waits for start readings holds at most f; whoever is voted for has confirmed its start.
 -- Main results: `start_found`, `waits`, `frame_confirmed`, `candidate_confirmed`.
+use Rattle.std.specs.Prelude.{Some, None, is_some}
 use mathlib.Core.Path.{◌≡◌, refl, sym, ◌∙◌, ap, subst}
 use mathlib.Core.Bool.{Bool, true, false, cond, not, ◌&&◌}
 use mathlib.Core.List.{List, ◌∷◌}
@@ -9,10 +10,10 @@ use native.Mathlib.Omega.{arith}
 use lib.Dec.{leb, eqb}
 use lib.ListN.{set}
 use borrow.Author.Tests.{eqb-true, eq-eqb, leb-false}
-use Rattle.protocol.specs.Types.{SomeReading, NoNumber, SomeNumber, Sender, HeadRecord, Setting, Stepped, Frame, NoFrame, Start, Vote, Adjust}
+use Rattle.protocol.specs.Types.{Sender, HeadRecord, Setting, Stepped, Frame, NoFrame, Start, Vote, Adjust}
 use Rattle.protocol.specs.Types.{Action, Look, StartSent, StartDelivered, StartConfirmed, VoteTurn, VoteDelivered, VoteClose, AdjustTurn, AdjustDelivered, AdjustClose}
 use Rattle.protocol.specs.Words.{has_sender, heads_fit}
-use Rattle.protocol.specs.Record.{is_reading, kept_of, start_of, fresh}
+use Rattle.protocol.specs.Record.{kept_of, start_of, fresh}
 use Rattle.protocol.specs.Step.{with_senders, vote, adjust, starts_held, may_lead, concluded, is_tested}
 use Rattle.protocol.specs.Run.{Event, History, record_of, frame_sent, frame_of}
 use Rattle.protocol.specs.Premises.{takes, receives, took, received, last_start}
@@ -40,14 +41,14 @@ start_kept r p (Adjust j c y) e = refl
 
 -- a head that has taken its turn, with the vote open and no candidate, holds at most f start readings
 abbrev pub Waiting : HeadRecord → Type 0
-Waiting r = r.vote.turn ≡ true → r.vote.closed ≡ false → r.vote.choice ≡ NoNumber → starts_held r ≤ r.f
+Waiting r = r.vote.turn ≡ true → r.vote.closed ≡ false → r.vote.choice ≡ None → starts_held r ≤ r.f
 
 -- no more start readings, turn taken no later, closed no earlier: still waiting
 waiting_same : (r m : HeadRecord) → m.n ≡ r.n → m.f ≡ r.f → (m.vote.turn ≡ true → r.vote.turn ≡ true) → (m.vote.closed ≡ false → r.vote.closed ≡ false)
     → m.vote.choice ≡ r.vote.choice → ((v : ℕ) → start_of m v ≡ start_of r v) → Waiting r → Waiting m
 unfolding starts_held
 waiting_same r m en ef tu cl ch st w a b c =
-    let less : starts_held m ≤ starts_held r = rw en (count_mono r.n (λ p. is_reading (start_of m p)) (λ p. is_reading (start_of r p)) (λ p l h. rw (st p) at h)) in
+    let less : starts_held m ≤ starts_held r = rw en (count_mono r.n (λ p. is_some (start_of m p)) (λ p. is_some (start_of r p)) (λ p l h. rw (st p) at h)) in
     let few = w (tu a) (cl b) (sym ch ∙ c) in
     omega arith
 
@@ -107,7 +108,7 @@ pub record StartAt (g : Setting) (s : History) (q v : ℕ) : Type 0 where
   pub past : History
   pub there : Earlier (event ∷ past) s
   pub is_start : receives 2 v 0 q event ≡ true
-  pub reading_is : start_of (record_of g s q) v ≡ SomeReading event.entry.reading
+  pub reading_is : start_of (record_of g s q) v ≡ Some event.entry.reading
   pub time_is : last_start s v q ≡ event.entry.time.0
 
 module _ (g : Setting) (small : g.n ≤ 16) where
@@ -119,7 +120,7 @@ module _ (g : Setting) (small : g.n ≤ 16) where
   delivers_start t a = is_start _ (t.asked.frame_is ∙ rw a refl)
 
   start_new : {s : History} {e : Event} (t : Taken g s e) → Valid g s → (v : ℕ) → receives 2 v 0 e.entry.head e ≡ true → (record_of g s e.entry.head).adjust.closed ≡ false
-      → start_of (record_of g (e ∷ s) e.entry.head) v ≡ SomeReading e.entry.reading
+      → start_of (record_of g (e ∷ s) e.entry.head) v ≡ Some e.entry.reading
   start_new {s} {e} t w v h o =
       let is = delivers_start t (eqb-true _ 2 (and_right (eqb e.entry.head e.entry.head) _ (and_left (takes 2 e.entry.head e) _ h))) in
       let from = and_left (eqb e.entry.sender v) _ (and_right (takes 2 e.entry.head e) _ h) in
@@ -183,21 +184,21 @@ module _ (g : Setting) (small : g.n ≤ 16) where
 
   -- (d) WHOEVER IS VOTED FOR HAS CONFIRMED ITS START
   module _ (fit : heads_fit g.n g.f ≡ true) where
-    pub frame_confirmed : {s : History} → Valid g s → (p j c : ℕ) → names g votes s p j ≡ SomeNumber c → took 3 c s ≡ true
+    pub frame_confirmed : {s : History} → Valid g s → (p j c : ℕ) → names g votes s p j ≡ Some c → took 3 c s ≡ true
     unfolding frame_sent
     frame_confirmed start p j c = none_is_some
     frame_confirmed (more {e = e} {s = s} t v) p j c =
-        by_head (λ p. names g votes (e ∷ s) p j ≡ SomeNumber c → took 3 c (e ∷ s) ≡ true) e p
+        by_head (λ p. names g votes (e ∷ s) p j ≡ Some c → took 3 c (e ∷ s) ≡ true) e p
         (frame_new g votes (λ j c. took 3 c (e ∷ s) ≡ true) (turn g votes t v) (λ j c h. or_second (takes 3 c e) _ (frame_confirmed v e.entry.head j c h))
         (λ z. new z.choice z.origin (frame_confirmed v)) j c)
         (λ d h. or_second (takes 3 c e) _ (frame_confirmed v p j c (sym (names_other g votes e s p j d) ∙ h)))
       where
-        new : (c : ℕ) → Origin g votes s e c → ((p j c : ℕ) → names g votes s p j ≡ SomeNumber c → took 3 c s ≡ true) → took 3 c (e ∷ s) ≡ true
+        new : (c : ℕ) → Origin g votes s e c → ((p j c : ℕ) → names g votes s p j ≡ Some c → took 3 c s ≡ true) → took 3 c (e ∷ s) ≡ true
         new c (own is none tu) ih =
             subst (λ (q : ℕ). took 3 q (e ∷ s) ≡ true) (sym is) (sym (confirmed_took g (more t v) e.entry.head) ∙ (run_in_range fit (more t v) e.entry.head t.head_below).marks.turn tu)
         new c (reached a n) ih = or_second (takes 3 c e) _ (ih _ _ c n)
 
-    pub candidate_confirmed : {s : History} → Valid g s → (q c : ℕ) → held g votes s q ≡ SomeNumber c → took 3 c s ≡ true
+    pub candidate_confirmed : {s : History} → Valid g s → (q c : ℕ) → held g votes s q ≡ Some c → took 3 c s ≡ true
     candidate_confirmed {s} v q c h =
         let j = held_sent g votes v q c h in
         let f = last_frame g votes v q j.0 j.1 in

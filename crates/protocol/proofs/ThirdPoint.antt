@@ -1,6 +1,7 @@
 -- THE THIRD POINT: a sheet of any words that is accepted and keeps all eight premises ends with every correct head having a
 -- clock, all with the same candidate, adjuster and adjustment, and the bound on the distance of corrected clocks.
 -- Main result: `third_point`, of the records; of the result words see ResultWords.antt.
+use Rattle.std.specs.Prelude.{Option, Some, unwrap_or}
 use mathlib.Core.Path.{◌≡◌, refl, sym, ◌∙◌, ap, subst}
 use mathlib.Core.Bool.{true, false}
 use mathlib.Core.List.{List, ◌∷◌}
@@ -10,9 +11,9 @@ use lib.Dec.{eqb}
 use lib.IntN.{pos, sub_ℕ, ◌+ℤ◌}
 use borrow.Author.Tests.{eqb-true, leb-true}
 use Rattle.protocol.specs.Base.{distance}
-use Rattle.protocol.specs.Types.{Reading, OptReading, SomeReading, SomeNumber, Setting, Kept}
+use Rattle.protocol.specs.Types.{Reading, Setting, Kept}
 use Rattle.protocol.specs.Words.{setting_at}
-use Rattle.protocol.specs.Record.{reading_or0, number_or0, chosen_start, outcome, correction}
+use Rattle.protocol.specs.Record.{reading_or0, chosen_start, outcome, correction}
 use Rattle.protocol.specs.Run.{Event, History, record_of, ran, run_sheet}
 use Rattle.protocol.specs.Premises.{takes, receives, took, is_steady, last_start, premises, first_broken, judge}
 use Rattle.protocol.specs.Claim.{CorrectHead, ending_of, LookedAt, shown, apart, since_start, bound_on_d, Agreement, ThirdPoint}
@@ -36,17 +37,17 @@ module _ {g : Setting} {h : History} (r : Round g h) where
   adjuster = (adjuster_agreed r).choice
 
   -- whoever has the candidate knows that it confirmed its start
-  confirmed : {s : History} → Earlier s h → (q : ℕ) → held g votes s q ≡ SomeNumber candidate → took 3 candidate s ≡ true
+  confirmed : {s : History} → Earlier s h → (q : ℕ) → held g votes s q ≡ Some candidate → took 3 candidate s ≡ true
   confirmed x q u = candidate_confirmed g r.sheet.at_most_16 r.sheet.heads_fit_test (valid_earlier x r.sheet.valid) q candidate u
 
   -- what a correct head ends with; `vote` is its vote for the candidate, `start` the delivery of its chosen start
   record Ends (q : ℕ) : Type 0 where
-    candidate_is : (record_of g h q).vote.choice ≡ SomeNumber candidate
-    adjuster_is : (record_of g h q).adjust.choice ≡ SomeNumber adjuster
+    candidate_is : (record_of g h q).vote.choice ≡ Some candidate
+    adjuster_is : (record_of g h q).adjust.choice ≡ Some adjuster
     closed : (record_of g h q).adjust.closed ≡ true
     vote : ChosenAt g votes h q candidate
     start : StartAt g (vote.event ∷ vote.past) q candidate
-    reading_is : chosen_start (record_of g h q) ≡ SomeReading start.event.entry.reading
+    reading_is : chosen_start (record_of g h q) ≡ Some start.event.entry.reading
     time_is : last_start h candidate q ≡ start.event.entry.time.0
 
   ends : {q : ℕ} → CorrectHead g q → Ends q
@@ -107,11 +108,11 @@ module _ {g : Setting} {h : History} (r : Round g h) where
       ≤ bound_on_d g (since_start h p (ending_of (record_of g h p)) d) (since_start h q (ending_of (record_of g h q)) e)
   unfolding ending_of correction
   clocks_together {p} {q} {d} {e} cp cq kp kq same =
-      subst (λ (x : OptReading). Within x (chosen_start (record_of g h q)) (record_of g h q).adjustment (received p) (received q)) (sym P.reading_is)
-      (subst (λ (y : OptReading). Within (SomeReading a) y (record_of g h q).adjustment (received p) (received q)) (sym Q.reading_is)
-      (subst (λ (z : Reading). Within (SomeReading a) (SomeReading b) z (received p) (received q)) (same_adjustment cp cq)
-      (subst (λ (s : ℕ). Within (SomeReading a) (SomeReading b) (record_of g h p).adjustment s (received q)) (sym (rw P.candidate_is P.time_is))
-      (subst (λ (t : ℕ). Within (SomeReading a) (SomeReading b) (record_of g h p).adjustment P.start.event.entry.time.0 t) (sym (rw Q.candidate_is Q.time_is)) at_starts))))
+      subst (λ (x : Option Reading). Within x (chosen_start (record_of g h q)) (record_of g h q).adjustment (received p) (received q)) (sym P.reading_is)
+      (subst (λ (y : Option Reading). Within (Some a) y (record_of g h q).adjustment (received p) (received q)) (sym Q.reading_is)
+      (subst (λ (z : Reading). Within (Some a) (Some b) z (received p) (received q)) (same_adjustment cp cq)
+      (subst (λ (s : ℕ). Within (Some a) (Some b) (record_of g h p).adjustment s (received q)) (sym (rw P.candidate_is P.time_is))
+      (subst (λ (t : ℕ). Within (Some a) (Some b) (record_of g h p).adjustment P.start.event.entry.time.0 t) (sym (rw Q.candidate_is Q.time_is)) at_starts))))
     where
       P : Ends p
       P = ends cp
@@ -126,9 +127,9 @@ module _ {g : Setting} {h : History} (r : Round g h) where
       b = Q.start.event.entry.reading
 
       received : ℕ → ℕ
-      received q = last_start h (number_or0 (record_of g h q).vote.choice) q
+      received q = last_start h (unwrap_or (record_of g h q).vote.choice 0) q
 
-      Within : OptReading → OptReading → Reading → ℕ → ℕ → Type 0
+      Within : Option Reading → Option Reading → Reading → ℕ → ℕ → Type 0
       Within x y z s t =
           1000000 * apart (pos d.entry.reading.0 +ℤ sub_ℕ (record_of g h p).adjustment.0 (reading_or0 x)) (pos e.entry.reading.0 +ℤ sub_ℕ z.0 (reading_or0 y))
           ≤ bound_on_d g (d.entry.time.0 - s) (e.entry.time.0 - t)
@@ -136,7 +137,7 @@ module _ {g : Setting} {h : History} (r : Round g h) where
       over : (k x y m n : ℕ) → m ≤ n + (k * x + k * y) → m ≤ n + k * (x + y)
       over k x y m n h = omega arith
 
-      at_starts : Within (SomeReading a) (SomeReading b) (record_of g h p).adjustment P.start.event.entry.time.0 Q.start.event.entry.time.0
+      at_starts : Within (Some a) (Some b) (record_of g h p).adjustment P.start.event.entry.time.0 Q.start.event.entry.time.0
       at_starts =
           let close = triangle d.entry.reading.0 P.start.event.entry.time.0 a.0 e.entry.reading.0 Q.start.event.entry.time.0 b.0 d.entry.time.0
           (g.drift * (d.entry.time.0 - P.start.event.entry.time.0)) (g.drift * (e.entry.time.0 - Q.start.event.entry.time.0)) g.tightness (record_of g h p).adjustment.0
@@ -151,8 +152,8 @@ module _ {g : Setting} {h : History} (r : Round g h) where
   unfolding ending_of
   agreement = record {
     has_clock = has_clock;
-    same_candidate = λ cp cq. ap number_or0 ((ends cp).candidate_is ∙ sym (ends cq).candidate_is);
-    same_adjuster = λ cp cq. ap number_or0 ((ends cp).adjuster_is ∙ sym (ends cq).adjuster_is);
+    same_candidate = λ cp cq. ap (λ m. unwrap_or m 0) ((ends cp).candidate_is ∙ sym (ends cq).candidate_is);
+    same_adjuster = λ cp cq. ap (λ m. unwrap_or m 0) ((ends cp).adjuster_is ∙ sym (ends cq).adjuster_is);
     same_adjustment = λ cp cq. ap (λ (x : Reading). x.0) (same_adjustment cp cq);
     clocks_together = clocks_together;
   }

@@ -2,6 +2,7 @@
 -- Main results: `valid_run` (a run that was not stopped has a valid history), `record_at`, `record_other`, `by_head`
 -- (an invariant of records is one induction over a valid history), `mark_took`, `adjust_turn_took`, `closed_took` (a mark is set by
 -- its action, the mark of a close by an early close too).
+use Rattle.std.specs.Prelude.{Option, Some, None, is_some}
 use mathlib.Core.Path.{◌≡◌, refl, sym, ◌∙◌, ap, ap₂, subst}
 use mathlib.Core.Bool.{Bool, true, false, cond, not, ◌&&◌, ◌||◌}
 use mathlib.Core.List.{List, [], ◌∷◌}
@@ -10,10 +11,10 @@ use native.Mathlib.Omega.{arith}
 use lib.Dec.{ltb, leb, eqb}
 use lib.ListN.{length, get_or}
 use borrow.Author.Tests.{eqb-true, eq-eqb, ltb-false, leb-true}
-use Rattle.protocol.specs.Types.{Reading, OptReading, NoReading, SomeReading, Sender, Phase, HeadRecord, Setting, Entry, Cause, BadEntry, TimeFell, ReadingFell, ActionClosed, Verdict, Accepted, Refused, Stepped, Frame, NoFrame, Start, Vote, Adjust}
+use Rattle.protocol.specs.Types.{Reading, Sender, Phase, HeadRecord, Setting, Entry, Cause, BadEntry, TimeFell, ReadingFell, ActionClosed, Verdict, Accepted, Refused, Stepped, Frame, NoFrame, Start, Vote, Adjust}
 use Rattle.protocol.specs.Types.{Action, StartDelivered, VoteDelivered, AdjustDelivered}
 use Rattle.protocol.specs.Words.{bits, has_sender, zero_where_unused, heads_fit, setting_of, first_word_fits, entry_of, entry_fits, setting_at, entry_count, place_of, entry_at, entry_fits_at}
-use Rattle.protocol.specs.Record.{kept_of, fresh, reading, reading_or0, is_reading}
+use Rattle.protocol.specs.Record.{kept_of, fresh, reading, reading_or0}
 use Rattle.protocol.specs.Step.{with_last, accepted, refused, is_closed, act, taken_as, take_action, action_of}
 use Rattle.protocol.specs.Causes.{sheet_verdict}
 use Rattle.protocol.specs.Run.{Event, History, record_of, is_delivered_by, or_else, frame_sent, frame_of, is_frame, carried_choice, carried_reading, input_of, last_time, step_entry, Run, stopped, ran, extend, and_then, run_of, after_verdict, run_sheet}
@@ -84,9 +85,9 @@ frame_fits (e ∷ s) a p k h = go (frame_sent s a p k) (frame_fits s a p k) h
     go (Adjust j c x) f h = f refl
 
 -- a reading put into numbers and read back
-carried_back : (x : OptReading) → cond (not (is_reading x)) NoReading (SomeReading (reading (reading_or0 x))) ≡ x
-carried_back NoReading = refl
-carried_back (SomeReading x) = refl
+carried_back : (x : Option Reading) → cond (not (is_some x)) None (Some (reading (reading_or0 x))) ≡ x
+carried_back None = refl
+carried_back (Some x) = refl
 
 -- a frame that a plain action, or another delivery, would deliver is none
 no_frame : (a k : ℕ) (x : Frame) → has_sender a ≡ false → (is_frame x ≡ true → is_delivered_by a k x ≡ true) → x ≡ NoFrame
@@ -115,7 +116,7 @@ asked_start e (Vote j c x) se ze fi = absurd_bool (fi refl) refl
 asked_start e (Adjust j c x) se ze fi = absurd_bool (fi refl) refl
 
 asked_vote : (e : Entry) (x : Frame) → is_frame x ≡ true → (is_frame x ≡ true → is_delivered_by 5 e.serial x ≡ true)
-    → Asked (entry_with e 5) x (VoteDelivered e.sender e.serial (carried_choice x) (cond (not (is_reading (carried_reading x))) NoReading (SomeReading (reading (reading_or0 (carried_reading x))))))
+    → Asked (entry_with e 5) x (VoteDelivered e.sender e.serial (carried_choice x) (cond (not (is_some (carried_reading x))) None (Some (reading (reading_or0 (carried_reading x))))))
 asked_vote e NoFrame se fi = absurd_bool se refl
 asked_vote e Start se fi = absurd_bool (fi refl) refl
 asked_vote e (Vote j c x) se fi =

@@ -1,14 +1,14 @@
 -- What a board written in C gives and gets: the head's row in its memory, and all else in numbers too.
-use Rattle.std.specs.Prelude.{cond, not, List, [], ◌∷◌, ℕ, ltb, eqb, get_or, ℤ, pos}
-use Rattle.protocol.specs.Types.{OptReading, HeadRecord, Input, BadFirstWord, BadEntry, BadRecord, Verdict, Accepted, Refused, Stepped, Frame, NoFrame, Start, Vote, Adjust}
+use Rattle.std.specs.Prelude.{cond, not, List, [], ◌∷◌, ℕ, ltb, eqb, get_or, ℤ, pos, Option, is_some, unwrap_or}
+use Rattle.protocol.specs.Types.{HeadRecord, HeadRow, Input, BadFirstWord, BadEntry, BadRecord, Verdict, Accepted, Refused, Stepped, Frame, NoFrame, Start, Vote, Adjust, Reading}
 use Rattle.protocol.specs.Words.{heads_fit}
-use Rattle.protocol.specs.Record.{is_reading, reading_or0, number_or0, fresh, chosen_start, outcome, correction, mark_number}
+use Rattle.protocol.specs.Record.{reading_or0, fresh, chosen_start, outcome, correction, mark_number}
 use Rattle.protocol.specs.Step.{refused, step}
 use Rattle.protocol.specs.Row.{row_of, record_in, row_fits, row_in_range}
 use Rattle.protocol.specs.Results.{if_adopted}
 
 -- the row that is left: a refusal leaves it as it was
-abbrev pub row_if : Verdict → HeadRecord → List ℕ → List ℕ
+abbrev pub row_if : Verdict → HeadRecord → HeadRow → HeadRow
 row_if Accepted r w = row_of r
 row_if (Refused c) r w = w
 
@@ -16,7 +16,7 @@ row_if (Refused c) r w = w
 unfoldable pub fresh_verdict : ℕ → ℕ → ℕ → Verdict
 fresh_verdict n f own = cond (not (heads_fit n f)) (Refused BadFirstWord) (cond (not (ltb own n)) (Refused BadEntry) Accepted)
 
-abbrev pub fresh_row : List ℕ → ℕ → ℕ → ℕ → List ℕ
+abbrev pub fresh_row : HeadRow → ℕ → ℕ → ℕ → HeadRow
 fresh_row w n f own = row_if (fresh_verdict n f own) (fresh n f own) w
 
 -- an action's numbers: action, reading, sender, serial, choice, carried, and the mark "none". A mark that is neither 0
@@ -34,15 +34,15 @@ input_in xs =
     }
 
 -- the step of the record that the row holds; a row that holds none is outside its ranges
-unfoldable pub row_step : List ℕ → Input → Stepped
+unfoldable pub row_step : HeadRow → Input → Stepped
 row_step w i = cond (row_fits w) (step (record_in w) i) (refused (record_in w) BadRecord)
 
-abbrev pub row_after : List ℕ → Stepped → List ℕ
+abbrev pub row_after : HeadRow → Stepped → HeadRow
 row_after w s = row_if s.verdict s.after w
 
 -- a vote's numbers and a frame's: the action by which it is delivered (0: no frame), serial, choice, carried, and the mark "none"
-abbrev pub vote_numbers : ℕ → ℕ → OptReading → List ℕ
-vote_numbers k c x = 5 ∷ k ∷ c ∷ reading_or0 x ∷ mark_number (not (is_reading x)) 1 ∷ []
+abbrev pub vote_numbers : ℕ → ℕ → Option Reading → List ℕ
+vote_numbers k c x = 5 ∷ k ∷ c ∷ reading_or0 x ∷ mark_number (not (is_some x)) 1 ∷ []
 
 abbrev pub frame_numbers : Frame → List ℕ
 frame_numbers NoFrame = 0 ∷ 0 ∷ 0 ∷ 0 ∷ 0 ∷ []
@@ -53,10 +53,10 @@ frame_numbers (Adjust k a x) = 8 ∷ k ∷ a ∷ x.0 ∷ 0 ∷ []
 -- how a round ended: outcome, candidate, adjuster, adjustment and start reading, the last four 0 unless the outcome is 2
 abbrev pub result_numbers : HeadRecord → List ℕ
 result_numbers r =
-    outcome r ∷ if_adopted r (number_or0 r.vote.choice) ∷ if_adopted r (number_or0 r.adjust.choice)
+    outcome r ∷ if_adopted r (unwrap_or r.vote.choice 0) ∷ if_adopted r (unwrap_or r.adjust.choice 0)
     ∷ if_adopted r r.adjustment.0 ∷ if_adopted r (reading_or0 (chosen_start r)) ∷ []
 
-unfoldable pub row_verdict : List ℕ → Verdict
+unfoldable pub row_verdict : HeadRow → Verdict
 row_verdict w = cond (row_in_range w) Accepted (Refused BadRecord)
 
 abbrev pub result_if : Verdict → HeadRecord → List ℕ

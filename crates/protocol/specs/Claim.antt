@@ -1,9 +1,9 @@
 -- Document 01, "The third point's words": the claim, as a type. Its proof is in proofs/.
-use Rattle.std.specs.Prelude.{◌≡◌, true, List, ◌∷◌, ◌++◌, ℕ, ◌+◌, ◌-◌, ◌*◌, ◌≤◌, ◌<◌, length, ℤ, pos, nat_abs, ◌+ℤ◌, ◌-ℤ◌}
+use Rattle.std.specs.Prelude.{◌≡◌, true, List, ◌∷◌, ◌++◌, ℕ, ◌+◌, ◌-◌, ◌*◌, ◌≤◌, ◌<◌, length, ℤ, pos, nat_abs, ◌+ℤ◌, ◌-ℤ◌, unwrap_or}
 use Rattle.std.proofs.Math.IntN.{sub_ℕ}
 use Rattle.protocol.specs.Types.{HeadRecord, Setting, Filled, Judged, Kept, Report}
 use Rattle.protocol.specs.Words.{bits, time_of, is_correct, setting_at}
-use Rattle.protocol.specs.Record.{number_or0, outcome, correction}
+use Rattle.protocol.specs.Record.{outcome, correction}
 use Rattle.protocol.specs.Run.{Event, History, record_of, ran, run_sheet}
 use Rattle.protocol.specs.Results.{words_per_head, word_of, replay}
 use Rattle.protocol.specs.Premises.{last_start, judge}
@@ -25,8 +25,8 @@ unfoldable pub ending_of : HeadRecord → Ending
 ending_of r =
     record {
       outcome = outcome r;
-      candidate = number_or0 r.vote.choice;
-      adjuster = number_or0 r.adjust.choice;
+      candidate = unwrap_or r.vote.choice 0;
+      adjuster = unwrap_or r.adjust.choice 0;
       adjustment = r.adjustment.0;
       correction = correction r;
     }

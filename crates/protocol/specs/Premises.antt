@@ -1,11 +1,12 @@
 -- Document 01, "The eight premises", as tests on a history, with the reading that document 02, No. 4, gives to premises 4 to 8.
 -- "Before and after, earlier and later go by the order of entries". What document 01 asks of a later entry is asked at the later of
 -- the two, so each test looks back only.
-use Rattle.std.specs.Prelude.{Bool, true, cond, not, ◌&&◌, ◌||◌, List, [], ◌∷◌, ℕ, suc, ◌+◌, ◌-◌, ◌*◌, leb, eqb, length, get_or}
+use Rattle.std.specs.Prelude.{Bool, true, cond, not, ◌&&◌, ◌||◌, List, [], ◌∷◌, ℕ, suc, ◌+◌, ◌-◌, ◌*◌, leb, eqb, length, get_or, Err}
 use Rattle.protocol.specs.Base.{◌⇒◌, any, all, all_below, count_below, distance}
 use Rattle.protocol.specs.Types.{Setting, Entry, Judged, Kept, Broken, Unjudged}
 use Rattle.protocol.specs.Words.{is_correct, setting_at}
-use Rattle.protocol.specs.Record.{Kind, votes, adjusts, phase_of}
+use Rattle.protocol.specs.declared.Kind.{Kind}
+use Rattle.protocol.specs.Record.{votes, adjusts, phase_of}
 use Rattle.protocol.specs.Causes.{cause_number}
 use Rattle.protocol.specs.Run.{Event, History, record_of, Run, stopped, ran, run_sheet}
 
@@ -156,12 +157,12 @@ judge ws = judge_run (setting_at ws) (run_sheet ws)
 abbrev pub premise_number : Judged → ℕ
 premise_number Kept = 0
 premise_number (Broken i) = i
-premise_number (Unjudged c p) = 0
+premise_number (Err x) = 0
 
 abbrev pub judged_numbers : Judged → List ℕ
 judged_numbers Kept = 0 ∷ 0 ∷ 0 ∷ []
 judged_numbers (Broken i) = 0 ∷ 0 ∷ i ∷ []
-judged_numbers (Unjudged c p) = cause_number c ∷ p ∷ 0 ∷ []
+judged_numbers (Err x) = cause_number x.cause ∷ x.place ∷ 0 ∷ []
 
 -- how many entries, from the first on, keep a test: the index of the entry at which it first fails, the count of the entries
 -- where it never does

@@ -1,6 +1,6 @@
 -- Document 01, "The bench sheet, and its neighbours": what the replay program prints, byte by byte.
-use Rattle.std.specs.Prelude.{cond, not, List, [], ◌∷◌, ◌++◌, ℕ, zero, suc, ◌+◌, ◌*◌, ◌/◌, ◌%◌, ltb, eqb, length, ℤ, pos, negsuc}
-use Rattle.protocol.specs.Types.{Setting, Cause, TooManyWords, BadLength, Verdict, Accepted, Refused, Judged, Kept, Broken, Unjudged}
+use Rattle.std.specs.Prelude.{cond, not, List, [], ◌∷◌, ◌++◌, ℕ, zero, suc, ◌+◌, ◌*◌, ◌/◌, ◌%◌, ltb, eqb, length, ℤ, pos, negsuc, Err}
+use Rattle.protocol.specs.Types.{Setting, Cause, TooManyWords, BadLength, Verdict, Accepted, Refused, Judged, Kept, Broken}
 use Rattle.protocol.specs.Words.{time_of, setting_at}
 use Rattle.protocol.specs.Causes.{cause_number}
 use Rattle.protocol.specs.Run.{History, Run, stopped, ran, run_sheet}
@@ -96,7 +96,7 @@ broken_line i k =
 abbrev pub premises_where : Setting → History → Judged → List ℕ
 premises_where g h Kept = premises_line 0
 premises_where g h (Broken i) = broken_line i (broken_at g i h)
-premises_where g h (Unjudged c p) = refused_line c p
+premises_where g h (Err x) = refused_line x.cause x.place
 
 abbrev pub last_line_of : Setting → Judged → Run → List ℕ
 last_line_of g j (stopped c p) = refused_line c p

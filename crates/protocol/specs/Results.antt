@@ -1,8 +1,8 @@
 -- Document 01, "Result words", with the fourth of document 02, No. 7, and the replay that fills a lent buffer with them.
-use Rattle.std.specs.Prelude.{cond, List, [], ◌∷◌, ◌++◌, ℕ, zero, suc, ◌+◌, ◌*◌, ◌^◌, ltb, eqb, length, get_or, drop}
+use Rattle.std.specs.Prelude.{cond, List, [], ◌∷◌, ◌++◌, ℕ, zero, suc, ◌+◌, ◌*◌, ◌^◌, ltb, eqb, length, get_or, drop, unwrap_or, Err}
 use Rattle.protocol.specs.Types.{HeadRecord, Setting, ShortBuffer, Verdict, Accepted, Refused, Replayed, Filled, TurnedBack}
 use Rattle.protocol.specs.Words.{setting_at, entry_count}
-use Rattle.protocol.specs.Record.{outcome, chosen_start, reading_or0, number_or0, mark_number}
+use Rattle.protocol.specs.Record.{outcome, chosen_start, reading_or0, mark_number}
 use Rattle.protocol.specs.Causes.{cause_number, sheet_verdict}
 use Rattle.protocol.specs.Run.{History, record_of, Run, stopped, ran, run_of}
 
@@ -14,8 +14,8 @@ if_adopted r x = cond (eqb (outcome r) 2) x 0
 -- kind 8 with the candidate's start reading"
 unfoldable pub outcome_word : ℕ → HeadRecord → ℕ
 outcome_word q r =
-    6 * 2 ^ 28 + outcome r * 2 ^ 24 + q * 2 ^ 20 + if_adopted r (number_or0 r.vote.choice) * 2 ^ 16
-    + if_adopted r (number_or0 r.adjust.choice) * 2 ^ 12
+    6 * 2 ^ 28 + outcome r * 2 ^ 24 + q * 2 ^ 20 + if_adopted r (unwrap_or r.vote.choice 0) * 2 ^ 16
+    + if_adopted r (unwrap_or r.adjust.choice 0) * 2 ^ 12
 
 unfoldable pub adjustment_word : HeadRecord → ℕ
 adjustment_word r = 7 * 2 ^ 28 + if_adopted r r.adjustment.0
@@ -69,4 +69,4 @@ replay ws out = fill_after (sheet_verdict ws) ws out
 -- the cause's number, 0 for none, and the place
 abbrev pub replayed_numbers : Replayed → List ℕ
 replayed_numbers Filled = 0 ∷ 0 ∷ []
-replayed_numbers (TurnedBack c p) = cause_number c ∷ p ∷ []
+replayed_numbers (Err x) = cause_number x.cause ∷ x.place ∷ []

@@ -1,8 +1,8 @@
 -- Document 01, "Causes to turn a sheet back" and "The third point's words": a run, entry by entry.
-use Rattle.std.specs.Prelude.{Bool, true, false, cond, not, ◌&&◌, ◌||◌, List, [], ◌∷◌, ℕ, zero, suc, ◌+◌, min, ltb, eqb}
-use Rattle.protocol.specs.Types.{OptReading, NoReading, SomeReading, HeadRecord, Setting, Entry, Input, Cause, BadEntry, TimeFell, Verdict, Accepted, Refused, Stepped, Frame, NoFrame, Start, Vote, Adjust}
+use Rattle.std.specs.Prelude.{Bool, true, false, cond, not, ◌&&◌, ◌||◌, List, [], ◌∷◌, ℕ, zero, suc, ◌+◌, min, ltb, eqb, Option, Some, None, is_some}
+use Rattle.protocol.specs.Types.{HeadRecord, Setting, Entry, Input, Cause, BadEntry, TimeFell, Verdict, Accepted, Refused, Stepped, Frame, NoFrame, Start, Vote, Adjust, Reading}
 use Rattle.protocol.specs.Words.{has_sender, setting_at, entry_count, place_of, entry_at, entry_fits_at}
-use Rattle.protocol.specs.Record.{fresh, reading_or0, is_reading, mark_number}
+use Rattle.protocol.specs.Record.{fresh, reading_or0, mark_number}
 use Rattle.protocol.specs.Step.{action_of, take_action, refused}
 use Rattle.protocol.specs.Causes.{sheet_verdict}
 
@@ -67,11 +67,11 @@ carried_choice Start = 0
 carried_choice (Vote j c x) = c
 carried_choice (Adjust j c x) = c
 
-abbrev pub carried_reading : Frame → OptReading
-carried_reading NoFrame = NoReading
-carried_reading Start = NoReading
+abbrev pub carried_reading : Frame → Option Reading
+carried_reading NoFrame = None
+carried_reading Start = None
 carried_reading (Vote j c x) = x
-carried_reading (Adjust j c x) = SomeReading x
+carried_reading (Adjust j c x) = Some x
 
 unfoldable pub input_of : Entry → Frame → Input
 input_of e x =
@@ -82,7 +82,7 @@ input_of e x =
       serial = e.serial;
       choice = carried_choice x;
       carried = reading_or0 (carried_reading x);
-      none = eqb e.action 5 && not (is_reading (carried_reading x));
+      none = eqb e.action 5 && not (is_some (carried_reading x));
     }
 
 abbrev pub last_time : History → ℕ

@@ -1,12 +1,13 @@
 -- Document 01, "Actions and steps of one head h": the ten actions, when each is closed, what each does, and the step;
 -- document 02, No. 4, "Closing when all have spoken", and No. 5, "Readings of another candidate".
-use Rattle.std.specs.Prelude.{Bool, true, false, cond, not, ◌&&◌, ◌||◌, List, [], ◌∷◌, map, ℕ, zero, suc, ◌+◌, ◌/◌, ◌%◌, ltb, leb, eqb, length, get_or, set}
+use Rattle.std.specs.Prelude.{Bool, true, false, cond, not, ◌&&◌, ◌||◌, List, [], ◌∷◌, map, ℕ, zero, suc, ◌+◌, ◌/◌, ◌%◌, ltb, leb, eqb, length, get_or, set, Option, Some, None, is_some}
 use Rattle.protocol.specs.Base.{all_below, count_below}
-use Rattle.protocol.specs.Types.{Reading, OptReading, NoReading, SomeReading, OptNumber, NoNumber, SomeNumber, Sender, Phase, HeadRecord, Input, Cause, BadEntry, ReadingFell, ActionClosed, BadRecord}
+use Rattle.protocol.specs.Types.{Reading, Sender, Phase, HeadRecord, Input, Cause, BadEntry, ReadingFell, ActionClosed, BadRecord}
 use Rattle.protocol.specs.Types.{Accepted, Refused, Stepped, Frame, NoFrame, Start, Vote, Adjust}
 use Rattle.protocol.specs.Types.{Action, Look, StartSent, StartDelivered, StartConfirmed, VoteTurn, VoteDelivered, VoteClose, AdjustTurn, AdjustDelivered, AdjustClose}
 use Rattle.protocol.specs.Words.{is_time, has_serial, zero_where_unused}
-use Rattle.protocol.specs.Record.{is_reading, is_number, reading, kept_of, start_of, vote_of, Kind, votes, adjusts, phase_of, latest_of, same_number, record_in_range}
+use Rattle.protocol.specs.declared.Kind.{Kind}
+use Rattle.protocol.specs.Record.{reading, kept_of, start_of, vote_of, votes, adjusts, phase_of, latest_of, same_number, record_in_range}
 use Rattle.protocol.specs.Median.{median}
 
 -- a phase, what is kept by a sender, and a record, each with one thing changed
@@ -17,32 +18,32 @@ abbrev pub close : Phase → Phase
 close p = record { turn = p.turn; closed = true; early = p.early; choice = p.choice; sent = p.sent }
 
 abbrev pub choose : ℕ → Phase → Phase
-choose c p = record { turn = p.turn; closed = p.closed; early = p.early; choice = SomeNumber c; sent = p.sent + 1 }
+choose c p = record { turn = p.turn; closed = p.closed; early = p.early; choice = Some c; sent = p.sent + 1 }
 
 -- closed early if b holds
 abbrev pub early_if : Bool → Phase → Phase
 early_if b p = record { turn = p.turn; closed = b || p.closed; early = b || p.early; choice = p.choice; sent = p.sent }
 
-abbrev pub with_start : Sender → OptReading → Sender
+abbrev pub with_start : Sender → Option Reading → Sender
 with_start k x = record { start = x; vote = k.vote; voted = k.voted; adjusted = k.adjusted; candidate = k.candidate; adjuster = k.adjuster }
 
-abbrev pub with_vote_reading : Sender → OptReading → Sender
+abbrev pub with_vote_reading : Sender → Option Reading → Sender
 with_vote_reading k x = record { start = k.start; vote = x; voted = k.voted; adjusted = k.adjusted; candidate = k.candidate; adjuster = k.adjuster }
 
 abbrev pub with_voted : Sender → ℕ → Sender
-with_voted k j = record { start = k.start; vote = k.vote; voted = SomeNumber j; adjusted = k.adjusted; candidate = k.candidate; adjuster = k.adjuster }
+with_voted k j = record { start = k.start; vote = k.vote; voted = Some j; adjusted = k.adjusted; candidate = k.candidate; adjuster = k.adjuster }
 
 abbrev pub with_adjusted : Sender → ℕ → Sender
-with_adjusted k j = record { start = k.start; vote = k.vote; voted = k.voted; adjusted = SomeNumber j; candidate = k.candidate; adjuster = k.adjuster }
+with_adjusted k j = record { start = k.start; vote = k.vote; voted = k.voted; adjusted = Some j; candidate = k.candidate; adjuster = k.adjuster }
 
 abbrev pub with_candidate : Sender → ℕ → Sender
-with_candidate k c = record { start = k.start; vote = k.vote; voted = k.voted; adjusted = k.adjusted; candidate = SomeNumber c; adjuster = k.adjuster }
+with_candidate k c = record { start = k.start; vote = k.vote; voted = k.voted; adjusted = k.adjusted; candidate = Some c; adjuster = k.adjuster }
 
 abbrev pub with_adjuster : Sender → ℕ → Sender
-with_adjuster k a = record { start = k.start; vote = k.vote; voted = k.voted; adjusted = k.adjusted; candidate = k.candidate; adjuster = SomeNumber a }
+with_adjuster k a = record { start = k.start; vote = k.vote; voted = k.voted; adjusted = k.adjusted; candidate = k.candidate; adjuster = Some a }
 
 -- what is kept of the sender of a vote, or an adjust, that is taken: its serial, whom it names (document 02, No. 4), and a vote's reading
-abbrev pub keep_vote : Sender → ℕ → ℕ → OptReading → Sender
+abbrev pub keep_vote : Sender → ℕ → ℕ → Option Reading → Sender
 keep_vote k serial c x = with_candidate (with_voted (with_vote_reading k x) serial) c
 
 abbrev pub keep_adjust : Sender → ℕ → ℕ → Sender
@@ -81,12 +82,12 @@ abbrev pub refused : HeadRecord → Cause → Stepped
 refused r c = record { verdict = Refused c; after = r; frame = NoFrame }
 
 -- document 02, No. 5: "only readings voted for the head's present candidate count": what is kept of a sender while v is the candidate
-abbrev pub kept_for : OptNumber → Sender → Sender
-kept_for v k = with_vote_reading k (cond (same_number k.candidate v) k.vote NoReading)
+abbrev pub kept_for : Option ℕ → Sender → Sender
+kept_for v k = with_vote_reading k (cond (same_number k.candidate v) k.vote None)
 
 -- "changing candidate drops the others"; the head's own reading is then that of its own vote
 abbrev pub drop_others : ℕ → HeadRecord → HeadRecord
-drop_others c r = with_senders r (map (kept_for (SomeNumber c)) r.senders)
+drop_others c r = with_senders r (map (kept_for (Some c)) r.senders)
 
 -- "A vote carries the candidate and h's own start reading of it, or the mark "none"; it is also h's own vote reading";
 -- "Serials count a head's votes from 0"; document 02, No. 4: it is h's own latest vote
@@ -104,18 +105,18 @@ adjust a x r =
 -- "After 2 and 4: once the turn is taken, with the vote open, no candidate and at least f + 1 start readings held,
 -- h becomes its own candidate and votes"
 unfoldable pub starts_held : HeadRecord → ℕ
-starts_held r = count_below r.n (λ p. is_reading (start_of r p))
+starts_held r = count_below r.n (λ p. is_some (start_of r p))
 
 unfoldable pub may_lead : HeadRecord → Bool
-may_lead r = r.vote.turn && (not r.vote.closed && (not (is_number r.vote.choice) && leb (r.f + 1) (starts_held r)))
+may_lead r = r.vote.turn && (not r.vote.closed && (not (is_some r.vote.choice) && leb (r.f + 1) (starts_held r)))
 
 unfoldable pub lead : HeadRecord → Stepped
 lead r = cond (may_lead r) (vote r.own r) (silent r)
 
 -- the vote readings held of the senders below p, the last sender's first
-abbrev pub prepend : OptReading → List ℕ → List ℕ
-prepend NoReading l = l
-prepend (SomeReading x) l = x.0 ∷ l
+abbrev pub prepend : Option Reading → List ℕ → List ℕ
+prepend None l = l
+prepend (Some x) l = x.0 ∷ l
 
 unfoldable pub vote_readings : HeadRecord → ℕ → List ℕ
 vote_readings r zero = []
@@ -124,32 +125,32 @@ vote_readings r (suc p) = prepend (vote_of r p) (vote_readings r p)
 -- 7: "With a candidate, no adjuster and at least one vote reading, h becomes adjuster, takes the median of the vote
 -- readings as adjustment and sends both"
 unfoldable pub may_adjust : HeadRecord → Bool
-may_adjust r = is_number r.vote.choice && (not (is_number r.adjust.choice) && leb 1 (length (vote_readings r r.n)))
+may_adjust r = is_some r.vote.choice && (not (is_some r.adjust.choice) && leb 1 (length (vote_readings r r.n)))
 
 unfoldable pub propose : HeadRecord → Stepped
 propose r = cond (may_adjust r) (adjust r.own (reading (median (vote_readings r r.n))) r) (silent r)
 
 -- 5: "if the serial isn't above the last taken from that sender"
-abbrev pub is_above : ℕ → OptNumber → Bool
-is_above k NoNumber = true
-is_above k (SomeNumber j) = ltb j k
+abbrev pub is_above : ℕ → Option ℕ → Bool
+is_above k None = true
+is_above k (Some j) = ltb j k
 
 -- a delivery of no effect: "after the vote close or if the serial isn't above the last taken from that sender"
-abbrev pub is_passed_over : Phase → OptNumber → ℕ → Bool
+abbrev pub is_passed_over : Phase → Option ℕ → ℕ → Bool
 is_passed_over phase last serial = phase.closed || not (is_above serial last)
 
 -- 5: "with no candidate, or a carried one of higher rank (lower number)"
-abbrev pub outranks : ℕ → OptNumber → Bool
-outranks c NoNumber = true
-outranks c (SomeNumber v) = ltb c v
+abbrev pub outranks : ℕ → Option ℕ → Bool
+outranks c None = true
+outranks c (Some v) = ltb c v
 
 -- the candidate once a vote for c is taken
-abbrev pub candidate_after : ℕ → OptNumber → OptNumber
-candidate_after c v = cond (outranks c v) (SomeNumber c) v
+abbrev pub candidate_after : ℕ → Option ℕ → Option ℕ
+candidate_after c v = cond (outranks c v) (Some c) v
 
 -- 5, and 8 "as 5": "No effect after the vote close or if the serial isn't above the last taken from that sender.
 -- Otherwise" the record keeps what it takes of the frame, and a choice that outranks its own is adopted and sent on
-unfoldable pub delivered : Phase → OptNumber → ℕ → ℕ → HeadRecord → HeadRecord → (HeadRecord → Stepped) → Stepped
+unfoldable pub delivered : Phase → Option ℕ → ℕ → ℕ → HeadRecord → HeadRecord → (HeadRecord → Stepped) → Stepped
 delivered phase last serial choice r taken adopt =
     cond (is_passed_over phase last serial) (silent r)
     (cond (outranks choice phase.choice) (adopt taken) (silent taken))
@@ -161,7 +162,7 @@ effect r Look = silent r
 -- "1 start sent: the start is the frame to send"
 effect r StartSent = accepted (with_marks r true r.confirmed) Start
 -- "2 start of the sender delivered, one's own too: its start reading becomes this reading, again at each repeat. No effect after the adjust close"
-effect r (StartDelivered p) = cond r.adjust.closed (silent r) (lead (with_sender r p (with_start (kept_of r p) (SomeReading r.last))))
+effect r (StartDelivered p) = cond r.adjust.closed (silent r) (lead (with_sender r p (with_start (kept_of r p) (Some r.last))))
 -- "3 own start confirmed", "4 vote turn"
 effect r StartConfirmed = silent (with_marks r r.started true)
 effect r VoteTurn = lead (with_vote r (take_turn r.vote))
@@ -208,7 +209,7 @@ is_own_frame r AdjustClose = false
 abbrev pub is_closed_by_marks : HeadRecord → Action → Bool
 is_closed_by_marks r Look = false
 -- "Closed if already sent, if h has a candidate, or after its vote close"
-is_closed_by_marks r StartSent = r.started || (is_number r.vote.choice || r.vote.closed)
+is_closed_by_marks r StartSent = r.started || (is_some r.vote.choice || r.vote.closed)
 is_closed_by_marks r (StartDelivered p) = false
 -- "Closed if not sent or already confirmed"
 is_closed_by_marks r StartConfirmed = not r.started || r.confirmed
@@ -294,7 +295,7 @@ take_action r x sent a =
 abbrev pub actions_of : Input → List Action
 actions_of i =
     Look ∷ StartSent ∷ StartDelivered i.sender ∷ StartConfirmed ∷ VoteTurn
-    ∷ VoteDelivered i.sender i.serial i.choice (cond i.none NoReading (SomeReading (reading i.carried)))
+    ∷ VoteDelivered i.sender i.serial i.choice (cond i.none None (Some (reading i.carried)))
     ∷ VoteClose ∷ AdjustTurn ∷ AdjustDelivered i.sender i.serial i.choice (reading i.carried) ∷ AdjustClose ∷ []
 
 unfoldable pub action_of : Input → Action

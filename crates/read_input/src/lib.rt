@@ -1,4 +1,4 @@
-// What a program reads, into memory that it lends: nothing is allocated.
+//! What a program reads, into memory that it lends: nothing is allocated.
 #![tactic(auto)]
 
 ghost use Rattle.std.specs.Prelude.{◌<◌, ◌≤◌, length, take, IfOk};
@@ -6,7 +6,7 @@ ghost use Rattle.std.specs.Io.KnownBytes.{Consumes, IsAtEnd};
 
 use std::io::{self, Read};
 
-// Fills the buffer from its start, as far as the input goes, and answers how many bytes that is.
+/// Fills the buffer from its start, as far as the input goes, and answers how many bytes that is.
 pub fn fill<R: Read>(reader: &mut R, buffer: &mut [u8]) -> io::Result<usize>
     ensures bound { IfOk result (λ n. n ≤ length buffer.new) }
     ensures bytes { IfOk result (λ n. Consumes (R.remaining reader.old) (R.remaining reader.new) (take n buffer.new)) }

@@ -10,8 +10,7 @@ use Rattle.protocol.specs.declared.Setting.{Setting}
 use Rattle.protocol.specs.declared.Entry.{Entry}
 use Rattle.protocol.specs.declared.Stepped.{Stepped}
 use Rattle.protocol.specs.declared.Cause.TheVariants.{ShortBuffer}
-use Rattle.protocol.specs.declared.Verdict.{Verdict}
-use Rattle.protocol.specs.declared.Verdict.TheVariants.{Accepted, Refused}
+use Rattle.protocol.specs.Types.{Verdict, Accepted, Refused}
 use Rattle.protocol.specs.Words.{setting_at, entry_count, place_of, entry_at, entry_fits_at}
 use Rattle.protocol.specs.Causes.{sheet_verdict}
 use Rattle.protocol.specs.Run.{History, Run, stopped, ran, step_entry, extend, and_then, run_of, after_verdict, run_sheet}

@@ -1,4 +1,5 @@
 -- What the number 0 says: main results `agrees_in_numbers`, `recorded-if-accepted`.
+use Rattle.std.specs.Prelude.{Err}
 use mathlib.Core.Path.{◌≡◌, refl, sym, ◌∙◌, ap}
 use mathlib.Core.Bool.{Bool, true, false}
 use mathlib.Core.List.{List, [], ◌∷◌}
@@ -8,12 +9,7 @@ use lib.ListN.{get_or}
 use Rattle.protocol.specs.declared.Setting.{Setting}
 use Rattle.protocol.specs.declared.Cause.{Cause}
 use Rattle.protocol.specs.declared.Cause.TheVariants.{TooManyWords, BadLength, BadFirstWord, BadSecondWord, ShortBuffer, BadEntry, TimeFell, ReadingFell, ActionClosed, BadRecord, CounterTooFar, BadField, TimeTooFar}
-use Rattle.protocol.specs.declared.Verdict.{Verdict}
-use Rattle.protocol.specs.declared.Verdict.TheVariants.{Accepted, Refused}
-use Rattle.protocol.specs.declared.Replayed.{Replayed}
-use Rattle.protocol.specs.declared.Replayed.TheVariants.{Filled, TurnedBack}
-use Rattle.protocol.specs.declared.Judged.{Judged}
-use Rattle.protocol.specs.declared.Judged.TheVariants.{Kept}
+use Rattle.protocol.specs.Types.{Verdict, Accepted, Refused, Replayed, Filled, TurnedBack, Judged, Kept}
 use Rattle.protocol.specs.Causes.{cause_number, verdict_number}
 use Rattle.protocol.specs.Run.{Run, stopped, ran, run_sheet}
 use Rattle.protocol.specs.Premises.{premises, first_broken, judge_run, judge}
@@ -53,7 +49,7 @@ kept_at_0 ws e = run_kept _ (run_sheet ws) e
 
 filled_at_0 : (r : Replayed) (j : Judged) → ◌≡◌ {A = ℕ} (get_or (answer_numbers r j) 0 0) 0 → r ≡ Filled
 filled_at_0 Filled j e = refl
-filled_at_0 (TurnedBack c p) j e = absurd (omega (arith, e, cause_range c))
+filled_at_0 (Err x) j e = absurd (omega (arith, e, cause_range x.cause))
 
 -- the claim of the report is that of its numbers
 pub agrees_in_numbers : (ws out answer : List ℕ) (k : ℕ) (r : Report) → r.judged ≡ judge ws → k ≡ judged_number r.judged

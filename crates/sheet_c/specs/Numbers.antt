@@ -1,10 +1,7 @@
 -- What a program written in C gets for a sheet that it gives or has written, and for result words, in numbers.
-use Rattle.std.specs.Prelude.{◌≡◌, List, ◌++◌, ℕ, ◌+◌, get_or, ℤ}
+use Rattle.std.specs.Prelude.{◌≡◌, List, ◌++◌, ℕ, ◌+◌, get_or, ℤ, Err}
 use Rattle.protocol.specs.declared.Setting.{Setting}
-use Rattle.protocol.specs.declared.Replayed.{Replayed}
-use Rattle.protocol.specs.declared.Replayed.TheVariants.{Filled}
-use Rattle.protocol.specs.declared.Judged.{Judged}
-use Rattle.protocol.specs.declared.Judged.TheVariants.{Kept, Broken, Unjudged}
+use Rattle.protocol.specs.Types.{Replayed, Filled, Judged, Kept, Broken, Unjudged}
 use Rattle.protocol.specs.Causes.{cause_number}
 use Rattle.protocol.specs.Run.{record_of}
 use Rattle.protocol.specs.Results.{result_words, replayed_numbers}
@@ -26,7 +23,7 @@ place_in l = get_or l 1 0
 abbrev pub judged_number : Judged → ℕ
 judged_number Kept = 0
 judged_number (Broken i) = i
-judged_number (Unjudged c p) = 16 + cause_number c
+judged_number (Err x) = 16 + cause_number x.cause
 
 -- the third point of the words in the buffer, where the judge's number and the replay's cause are 0
 abbrev pub AgreesInNumbers : List ℕ → ℕ → List ℕ → List ℕ → Type 0

@@ -1,5 +1,5 @@
-// What a program written in C calls to write or draft a sheet, to replay and judge one, and to read its result words;
-// include/daisarnica_sheet.h declares it.
+//! What a program written in C calls to write or draft a sheet, to replay and judge one, and to read its result words;
+//! include/daisarnica_sheet.h declares it.
 #![tactic(auto)]
 
 ghost use Rattle.std.specs.Prelude.{◌≡◌, ◌∷◌, ◌^◌, ◌<◌};
@@ -11,56 +11,53 @@ ghost use Rattle.protocol.specs.Draft.{draft};
 ghost use Rattle.protocol.specs.Readers.{display, plan};
 ghost use Rattle.sheet_c.specs.Numbers.{AgreesInNumbers, RecordedIfAccepted, DraftedIfAccepted, ShownIfResult, PlannedIfResult, answer_numbers, judged_number, place_in};
 
-use data_values::cause_number;
 use judge_sheet::replay_and_judge;
-use protocol::{Judged, Replayed, Verdict};
+use protocol::{Cause, Refusal};
 use sheet_display::display;
 use sheet_draft::draft_sheet;
+use sheet_numbers::SettingNumbers;
 use sheet_plan::plan;
 use sheet_writer::write_sheet;
 
-// The judge's numbers behind the replay's cause and place.
-fn numbers_behind(cause: u32, place: u32, j: Judged) -> [u32; 5]
-    requires { place_in (judged_numbers j) < 2 ^ 32 }
-    ensures { result ≡ cause ∷ place ∷ judged_numbers j }
-{
-    match j {
-        Judged::Kept => [cause, place, 0, 0, 0],
-        Judged::Broken(i) => [cause, place, 0, 0, i as u32],
-        Judged::Unjudged(c, p) => [cause, place, cause_number(c), p as u32, 0],
-    }
-}
-
-fn answer_numbers(r: Replayed, j: Judged) -> [u32; 5]
+// The replay's cause and place, the judge's, and the first broken premise; each 0 where there is none.
+fn answer_numbers(r: Result<(), Refusal>, j: Result<Option<u8>, Refusal>) -> [u32; 5]
     requires { (place_in (replayed_numbers r) < 2 ^ 32) × (place_in (judged_numbers j) < 2 ^ 32) }
     ensures { result ≡ answer_numbers r j }
 {
-    match r {
-        Replayed::Filled => numbers_behind(0, 0, j),
-        Replayed::TurnedBack(c, p) => numbers_behind(cause_number(c), p as u32, j),
+    let (cause, place) = match r {
+        Ok(()) => (0, 0),
+        Err(refusal) => (u32::from(refusal.cause), refusal.place as u32),
+    };
+    match j {
+        Ok(None) => [cause, place, 0, 0, 0],
+        Ok(Some(i)) => [cause, place, 0, 0, u32::from(i)],
+        Err(refusal) => [
+            cause,
+            place,
+            u32::from(refusal.cause),
+            refusal.place as u32,
+            0,
+        ],
     }
 }
 
-fn judged_number(j: Judged) -> u32
+fn judged_number(j: Result<Option<u8>, Refusal>) -> u32
     ensures { result ≡ judged_number j }
 {
     match j {
-        Judged::Kept => 0,
-        Judged::Broken(i) => i as u32,
-        Judged::Unjudged(c, _) => 16 + cause_number(c),
+        Ok(None) => 0,
+        Ok(Some(i)) => u32::from(i),
+        Err(refusal) => 16 + u32::from(refusal.cause),
     }
 }
 
-fn verdict_number(v: Verdict) -> u32
+fn verdict_number(v: Result<(), Cause>) -> u32
     ensures { result ≡ verdict_number v }
 {
-    match v {
-        Verdict::Accepted => 0,
-        Verdict::Refused(c) => cause_number(c),
-    }
+    v.err().map_or(0, u32::from)
 }
 
-// Writes a run sheet from its fields into a lent buffer; returns 0 or the cause.
+/// Writes a run sheet from its fields into a lent buffer; returns 0 or the cause.
 #[unsafe(no_mangle)]
 pub extern "C" fn daisarnica_write_sheet(
     n: u32,
@@ -75,10 +72,17 @@ pub extern "C" fn daisarnica_write_sheet(
         × (out.new ≡ (write_sheet (setting_from n f correct drift tightness) numbers.now out.old).buffer)
         × RecordedIfAccepted (setting_from n f correct drift tightness) numbers.now result out.new }
 {
-    verdict_number(write_sheet(n, f, correct, drift, tightness, numbers, out))
+    let setting = SettingNumbers {
+        n,
+        f,
+        correct,
+        drift,
+        tightness,
+    };
+    verdict_number(write_sheet(setting, numbers, out))
 }
 
-// Drafts a plain round's sheet into a lent buffer; returns 0 or the cause.
+/// Drafts a plain round's sheet into a lent buffer; returns 0 or the cause.
 #[unsafe(no_mangle)]
 pub extern "C" fn daisarnica_draft_sheet(
     n: u32,
@@ -94,7 +98,7 @@ pub extern "C" fn daisarnica_draft_sheet(
     verdict_number(draft_sheet(n, f, first, spacing, out))
 }
 
-// Replays a sheet into a lent buffer and judges it; writes the five numbers of both answers and returns the judge's in one.
+/// Replays a sheet into a lent buffer and judges it; writes the five numbers of both answers and returns the judge's in one.
 #[unsafe(no_mangle)]
 pub extern "C" fn daisarnica_replay_and_judge(
     sheet: &[u32],
@@ -107,13 +111,11 @@ pub extern "C" fn daisarnica_replay_and_judge(
         × AgreesInNumbers sheet.now result answer.new out.new }
 {
     let report = replay_and_judge(sheet, out);
-    let replayed = report.replayed;
-    let judged = report.judged;
-    *answer = answer_numbers(replayed, judged);
-    judged_number(judged)
+    *answer = answer_numbers(report.replayed, report.judged);
+    judged_number(report.judged)
 }
 
-// Reads what result words say of a head, for the carriage display; returns 0 or the cause.
+/// Reads what result words say of a head, for the carriage display; returns 0 or the cause.
 #[unsafe(no_mangle)]
 pub extern "C" fn daisarnica_display(n: u32, head: u32, words: &[u32], shown: &mut [i64; 6]) -> u32
     ensures { (result ≡ verdict_number (display n head words.now).verdict)
@@ -123,7 +125,7 @@ pub extern "C" fn daisarnica_display(n: u32, head: u32, words: &[u32], shown: &m
     verdict_number(display(n, head, words, shown))
 }
 
-// The same and the frames that the head broadcast, for the bus planner.
+/// The same and the frames that the head broadcast, for the bus planner.
 #[unsafe(no_mangle)]
 pub extern "C" fn daisarnica_plan(n: u32, head: u32, words: &[u32], told: &mut [i64; 9]) -> u32
     ensures { (result ≡ verdict_number (plan n head words.now).verdict)

@@ -1,22 +1,18 @@
 -- What is noted of the words that the display shows, with one word more.
--- Main results: `same_head`, `other_head`, `more_shown`, `more_passed`; `number_is`, `numbers_are`; `of_head`, `read_by`, `displays`.
+-- Main results: `same_head`, `other_head`, `more_shown`, `more_passed`; `of_head`, `read_by`, `displays`.
 use mathlib.Core.Path.{◌≡◌, refl, sym, ◌∙◌, ap, subst}
 use mathlib.Core.Bool.{Bool, true, false, ◌&&◌}
 use mathlib.Core.List.{List, [], ◌∷◌, ◌++◌, append-nil}
 use mathlib.Core.Logic.{◌≢◌}
-use Prim.Native.Nat.{ℕ, suc, ◌+◌, ◌*◌, ◌/◌, ◌%◌, ◌^◌, ◌≤◌, ◌<◌}
+use Prim.Native.Nat.{ℕ, suc, ◌+◌, ◌*◌, ◌/◌, ◌%◌, ◌≤◌, ◌<◌}
 use native.Mathlib.Omega.{arith}
-use native.Mathlib.Nat.{lt_trans}
 use lib.Dec.{ltb, eqb, lit<}
-use lib.IntN.{ℤ, pos}
-use mir.Syntax.{w64}
-use mir.Val.{to_z}
-use mir.Facts.{to_z_pos}
 use lib.ListN.{length, get_or, set, take, length-set, length-append, get_or-append, get_or-eq_default}
 use lib.Seq.{take-suc, get_or-append_seam, get_or-set_same, get_or-set_other}
 use borrow.Author.Tests.{eqb-true, eqb-false, ltb-true, ltb-false}
+use Rattle.std.proofs.Math.Bool.{and_comm}
 use Rattle.protocol.specs.Words.{kind_of}
-use Rattle.protocol.specs.declared.Verdict.{Verdict}
+use Rattle.protocol.specs.Types.{Verdict}
 use Rattle.protocol.specs.Results.{word_of}
 use Rattle.protocol.specs.Readers.{shown_in, shown_at, is_head_of, kinds_fit, first_failed, read_verdict, tell, keep, is_shown, display}
 use Rattle.protocol.proofs.Tests.{cases, all_same}
@@ -54,13 +50,13 @@ kinds_more l w =
 -- what is noted of one word more that is shown, at the head's place among three or at another
 module _ (q : ℕ) (l : List ℕ) (w count : ℕ) (fits : Bool) (words_of_head : List ℕ) (was : Notes q l count fits words_of_head) where
   abbrev fits_now : Bool
-  fits_now = eqb (kind_of w) (6 + count % 3) && fits
+  fits_now = fits && eqb (kind_of w) (6 + count % 3)
 
   count_more : count + 1 ≡ length (l ++ (w ∷ []))
   count_more = omega (arith, was.count_is, length-append l (w ∷ []))
 
   fits_more : fits_now ≡ kinds_fit 3 (l ++ (w ∷ []))
-  fits_more = rw (was.count_is, was.fits_is) (sym (kinds_more l w))
+  fits_more = rw (was.count_is, was.fits_is) (and_comm (kinds_fit 3 l) (eqb (kind_of w) (6 + length l % 3)) ∙ sym (kinds_more l w))
 
   pub other_head : count / 3 ≢ q → Notes q (l ++ (w ∷ [])) (count + 1) fits_now words_of_head
   other_head other = record {
@@ -95,15 +91,6 @@ module _ (q : ℕ) (words : List ℕ) (i : ℕ) (inside : i < length words) (cou
 pub shown_most : (p : ℕ → Bool) (ws : List ℕ) → length (keep p ws) ≤ length ws
 shown_most p [] = omega arith
 shown_most p (w ∷ ws) = let m = shown_most p ws in cases (p w) (λ t. rw t (omega arith)) (λ t. rw t (omega arith))
-
--- THE NUMBERS THAT ARE SHOWN, each of 64 bits with a sign
-
-pub number_is : (x : ℕ) → x < 2 ^ 32 → to_z w64 x ≡ pos x
-number_is x h = to_z_pos w64 (lt_trans h (lit< tt))
-
-pub numbers_are : (a b c d e : ℕ) (z : ℤ) → a < 2 ^ 32 → b < 2 ^ 32 → c < 2 ^ 32 → d < 2 ^ 32 → e < 2 ^ 32
-    → to_z w64 a ∷ to_z w64 b ∷ to_z w64 c ∷ to_z w64 d ∷ to_z w64 e ∷ z ∷ [] ≡ pos a ∷ pos b ∷ pos c ∷ pos d ∷ pos e ∷ z ∷ []
-numbers_are a b c d e z la lb lc ld le = λ i. number_is a la i ∷ number_is b lb i ∷ number_is c lc i ∷ number_is d ld i ∷ number_is e le i ∷ z ∷ []
 
 -- THE ANSWER
 

@@ -1,4 +1,3 @@
 pub mod Page
 pub mod Round
 pub mod Sheet
-pub mod Sizes

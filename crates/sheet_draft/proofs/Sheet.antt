@@ -8,7 +8,7 @@ use native.Mathlib.Omega.{arith}
 use lib.ListN.{length}
 use borrow.Author.Tests.{lt-ltb}
 use Rattle.protocol.specs.declared.Cause.{Cause}
-use Rattle.protocol.specs.declared.Verdict.TheVariants.{Accepted, Refused}
+use Rattle.protocol.specs.Types.{Accepted, Refused}
 use Rattle.protocol.specs.Spelling.{entry_words}
 use Rattle.protocol.specs.Recorder.{setting_from, setting_in_width}
 use Rattle.protocol.specs.Draft.{draft_setting, draft_entries, draft_sheet, draft_verdict, draft, Drafted}

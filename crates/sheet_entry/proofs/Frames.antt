@@ -1,6 +1,7 @@
 -- The arrays of frames sent, after an accepted entry: a vote or adjust that it sends is stored at its own index, which nothing
 -- stood at; any other frame leaves them.
 -- Main results: `stores_frame`, `keeps_frames`.
+use Rattle.std.specs.Prelude.{unwrap_or}
 use mathlib.Core.Path.{◌≡◌, refl, sym, ◌∙◌, ap, ap₂, subst}
 use mathlib.Core.Bool.{Bool, true, false, ◌&&◌}
 use mathlib.Core.List.{List, ◌∷◌}
@@ -9,16 +10,16 @@ use native.Mathlib.Omega.{arith}
 use lib.Dec.{ltb, eqb}
 use lib.ListN.{set}
 use borrow.Author.Tests.{eqb-true, eqb-false}
+use Rattle.protocol.specs.declared.HeadRow.{HeadRow}
 use Rattle.protocol.specs.declared.Setting.{Setting}
-use Rattle.protocol.specs.declared.Sent.{Sent}
-use Rattle.protocol.specs.declared.Frame.{Frame}
-use Rattle.protocol.specs.declared.Frame.TheVariants.{NoFrame, Start, Vote, Adjust}
-use Rattle.protocol.specs.declared.Verdict.TheVariants.{Accepted}
+use Rattle.head_row.specs.declared.Sent.{Sent}
+use Rattle.protocol.specs.Types.{Frame, NoFrame, Start, Vote, Adjust, Accepted}
 use Rattle.protocol.specs.Base.{table}
 use Rattle.protocol.specs.Words.{setting_at, entry_at}
-use Rattle.protocol.specs.Record.{Kind, votes, adjusts, number_or0}
+use Rattle.protocol.specs.declared.Kind.{Kind}
+use Rattle.protocol.specs.Record.{votes, adjusts}
 use Rattle.protocol.specs.Premises.{delivery}
-use Rattle.protocol.specs.Row.{sent_of}
+use Rattle.head_row.specs.Sent.{sent_of}
 use Rattle.protocol.specs.Run.{Event, History, is_delivered_by, carried_choice}
 use Rattle.protocol.proofs.Tests.{absurd_bool, cases, cond_elim, and_left, and_right, eqb_same, and_false}
 use Rattle.protocol.proofs.Tables.{length_table, table_at, is_table, set_table}
@@ -104,7 +105,7 @@ choice_is Start = refl
 choice_is (Vote j c y) = refl
 choice_is (Adjust j c y) = refl
 
-pub choice_named : (x : Frame) → carried_choice x ≡ number_or0 (named x)
+pub choice_named : (x : Frame) → carried_choice x ≡ unwrap_or (named x) 0
 choice_named NoFrame = refl
 choice_named Start = refl
 choice_named (Vote j c y) = refl
@@ -116,7 +117,7 @@ serial_is Start = refl
 serial_is (Vote j c y) = refl
 serial_is (Adjust j c y) = refl
 
-module _ {ws : List ℕ} {i : ℕ} {s : History} {heads : List (List ℕ)} (now : Stands ws i s heads) {choices carried : List ℕ} (kept : Carries s choices carried)
+module _ {ws : List ℕ} {i : ℕ} {s : History} {heads : List HeadRow} (now : Stands ws i s heads) {choices carried : List ℕ} (kept : Carries s choices carried)
     (taken : (answer_at ws i s).verdict ≡ Accepted) {x : Sent} (is : x ≡ sent_of (answer_at ws i s).frame) where
   pub keeps_frames : x.kind < 5 → Carries (event_at ws i s ∷ s) choices carried
   unfolding choices_of carried_of

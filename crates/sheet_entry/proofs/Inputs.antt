@@ -1,5 +1,6 @@
 -- An entry's input, made from the arrays of frames sent.
 -- Main results: `vote_input`, `adjust_input`, `plain_input`.
+use Rattle.std.specs.Prelude.{Some, None, is_some}
 use mathlib.Core.Path.{◌≡◌, refl, sym, ◌∙◌, ap, subst}
 use mathlib.Core.Bool.{Bool, true, false, not, ◌&&◌}
 use mathlib.Core.List.{List}
@@ -9,15 +10,15 @@ use native.Mathlib.Omega.{arith}
 use lib.Dec.{eqb}
 use lib.ListN.{get_or}
 use borrow.Author.Tests.{lt-ltb, ne_eqb}
-use Rattle.protocol.specs.declared.OptReading.TheVariants.{NoReading, SomeReading}
+use Rattle.protocol.specs.declared.HeadRow.{HeadRow}
 use Rattle.protocol.specs.declared.Entry.{Entry}
 use Rattle.protocol.specs.declared.Input.{Input}
-use Rattle.protocol.specs.declared.Frame.{Frame}
-use Rattle.protocol.specs.declared.Frame.TheVariants.{NoFrame, Start, Vote, Adjust}
+use Rattle.protocol.specs.Types.{Frame, NoFrame, Start, Vote, Adjust}
 use Rattle.protocol.specs.Words.{entry_at}
-use Rattle.protocol.specs.Record.{Kind, votes, adjusts, reading_or0, is_reading}
+use Rattle.protocol.specs.declared.Kind.{Kind}
+use Rattle.protocol.specs.Record.{votes, adjusts, reading_or0}
 use Rattle.protocol.specs.Premises.{delivery}
-use Rattle.protocol.specs.Row.{sent_of}
+use Rattle.head_row.specs.Sent.{sent_of}
 use Rattle.protocol.specs.Run.{History, is_delivered_by, frame_sent, frame_of, is_frame, carried_choice, carried_reading, input_of}
 use Rattle.protocol.proofs.Tests.{absurd_bool, and_left}
 use Rattle.protocol.proofs.Tables.{table_at}
@@ -35,11 +36,11 @@ abbrev Delivers : ℕ → ℕ → Frame → Type 0
 Delivers a j x = is_frame x ≡ true → is_delivered_by a j x ≡ true
 
 vote_carries : (j : ℕ) (x : Frame) → Delivers 5 j x → reading_or0 (carried_reading x) < 2 ^ 28
-    → ((sent_of x).carried - 1 ≡ reading_or0 (carried_reading x)) × (eqb (sent_of x).carried 0 ≡ not (is_reading (carried_reading x)))
+    → ((sent_of x).carried - 1 ≡ reading_or0 (carried_reading x)) × (eqb (sent_of x).carried 0 ≡ not (is_some (carried_reading x)))
 vote_carries j NoFrame d b = (refl, refl)
 vote_carries j Start d b = absurd_bool (d refl) refl
-vote_carries j (Vote i c NoReading) d b = (refl, refl)
-vote_carries j (Vote i c (SomeReading x)) d b = rw (lt-ltb x.0 (2 ^ 28) b) (omega arith, ne_eqb (x.0 + 1) 0 (λ z. omega arith))
+vote_carries j (Vote i c None) d b = (refl, refl)
+vote_carries j (Vote i c (Some x)) d b = rw (lt-ltb x.0 (2 ^ 28) b) (omega arith, ne_eqb (x.0 + 1) 0 (λ z. omega arith))
 vote_carries j (Adjust i c x) d b = absurd_bool (d refl) refl
 
 adjust_carries : (j : ℕ) (x : Frame) → Delivers 8 j x → (sent_of x).carried ≡ reading_or0 (carried_reading x)
@@ -62,11 +63,11 @@ input_with e choice carried none =
     record { action = e.action; reading = e.reading.0; sender = e.sender; serial = e.serial; choice = choice; carried = carried; none = none }
 
 input_is : (e : Entry) (x : Frame) {choice carried : ℕ} {none : Bool} → choice ≡ carried_choice x → carried ≡ reading_or0 (carried_reading x)
-    → none ≡ (eqb e.action 5 && not (is_reading (carried_reading x))) → input_with e choice carried none ≡ input_of e x
+    → none ≡ (eqb e.action 5 && not (is_some (carried_reading x))) → input_with e choice carried none ≡ input_of e x
 unfolding input_of
 input_is e x p q r = λ i. input_with e (p i) (q i) (r i)
 
-module _ {ws : List ℕ} {i : ℕ} {s : History} {heads : List (List ℕ)} (now : Stands ws i s heads)
+module _ {ws : List ℕ} {i : ℕ} {s : History} {heads : List HeadRow} (now : Stands ws i s heads)
     {choices carried : List ℕ} (kept : Carries s choices carried) {e : Entry} (is : e ≡ entry_at ws i) where
   delivers : {a : ℕ} → e.action ≡ a → Delivers a e.serial (frame_of s e)
   delivers a = subst (λ (a : ℕ). Delivers a e.serial (frame_of s e)) a (frame_fits s e.action e.sender e.serial)

@@ -9,24 +9,24 @@ use lib.ListN.{get_or}
 use borrow.Author.Tests.{lt-ltb, le-ltb}
 use Rattle.protocol.specs.declared.Reading.{Reading}
 use Rattle.protocol.specs.declared.HeadRecord.{HeadRecord}
+use Rattle.protocol.specs.declared.HeadRow.{HeadRow}
 use Rattle.protocol.specs.declared.Setting.{Setting}
 use Rattle.protocol.specs.declared.Entry.{Entry}
 use Rattle.protocol.specs.declared.Action.{Action}
 use Rattle.protocol.specs.declared.Cause.TheVariants.{BadEntry, TimeFell, ReadingFell, ActionClosed}
-use Rattle.protocol.specs.declared.Verdict.{Verdict}
-use Rattle.protocol.specs.declared.Verdict.TheVariants.{Accepted, Refused}
+use Rattle.protocol.specs.Types.{Verdict, Accepted, Refused}
 use Rattle.protocol.specs.declared.Stepped.{Stepped}
 use Rattle.protocol.specs.Words.{setting_at, entry_at, entry_fits_at}
 use Rattle.protocol.specs.Step.{with_last, refused, is_closed, act, taken_as, take_action}
 use Rattle.protocol.specs.Row.{row_of}
 use Rattle.protocol.specs.Run.{History, record_of, last_time, step_entry}
 use Rattle.protocol.proofs.Effects.{act_accepted}
+use Rattle.protocol.specs.Row.{no_row}
 use Rattle.sheet_state.specs.Arrays.{answer_at, Stands}
 use Rattle.sheet_state.proofs.Standing.{head_row}
 use Rattle.sheet_open.specs.Open.{is_open}
 
-last_in : (r : HeadRecord) → get_or (row_of r) 0 0 ≡ r.last.0
-unfolding row_of
+last_in : (r : HeadRecord) → (row_of r).last ≡ r.last.0
 last_in r = refl
 
 taken_verdict : (r : HeadRecord) (x : Reading) (sent : Bool) (a : Action)
@@ -60,7 +60,7 @@ entry_verdict_is g s fits e = go fits (ltb e.time.0 (last_time s)) _ _ (sym (tak
     go true false v t u = u
 
 -- the same, on the rows, cause by cause
-module _ {ws : List ℕ} {i : ℕ} {s : History} {heads : List (List ℕ)} (now : Stands ws i s heads) {time : ℕ} (last : time ≡ last_time s)
+module _ {ws : List ℕ} {i : ℕ} {s : History} {heads : List HeadRow} (now : Stands ws i s heads) {time : ℕ} (last : time ≡ last_time s)
     {e : Entry} (is : e ≡ entry_at ws i) {fits : Bool} (tested : fits ≡ entry_fits_at ws i) where
   verdict_is : cond (not fits) (Refused BadEntry) (cond (ltb e.time.0 time) (Refused TimeFell)
       (cond (ltb e.reading.0 (record_of (setting_at ws) s e.head).last.0) (Refused ReadingFell) (cond (is_open (setting_at ws) s e) Accepted (Refused ActionClosed))))
@@ -76,11 +76,11 @@ module _ {ws : List ℕ} {i : ℕ} {s : History} {heads : List (List ℕ)} (now 
     time_fell t = rw (f, lt-ltb _ _ t) at verdict_is
 
     module _ (t : time ≤ e.time.0) (at : ℕ) (u : at ≡ e.head % 16) where
-      last_is : get_or (get_or heads at []) 0 0 ≡ (record_of (setting_at ws) s e.head).last.0
-      last_is = ap (λ (row : List ℕ). get_or row 0 0) (head_row now is at u) ∙ last_in (record_of (setting_at ws) s e.head)
+      last_is : (get_or heads at no_row).last ≡ (record_of (setting_at ws) s e.head).last.0
+      last_is = ap (λ (row : HeadRow). row.last) (head_row now is at u) ∙ last_in (record_of (setting_at ws) s e.head)
 
-      pub reading_fell : e.reading.0 < get_or (get_or heads at []) 0 0 → Refused ReadingFell ≡ (answer_at ws i s).verdict
+      pub reading_fell : e.reading.0 < (get_or heads at no_row).last → Refused ReadingFell ≡ (answer_at ws i s).verdict
       reading_fell x = rw (f, le-ltb _ _ t, lt-ltb _ _ (rw last_is at x)) at verdict_is
 
-      pub rest_is_open : get_or (get_or heads at []) 0 0 ≤ e.reading.0 → (b : Bool) → is_open (setting_at ws) s e ≡ b → cond b Accepted (Refused ActionClosed) ≡ (answer_at ws i s).verdict
+      pub rest_is_open : (get_or heads at no_row).last ≤ e.reading.0 → (b : Bool) → is_open (setting_at ws) s e ≡ b → cond b Accepted (Refused ActionClosed) ≡ (answer_at ws i s).verdict
       rest_is_open x b o = rw (f, le-ltb _ _ t, le-ltb _ _ (rw last_is at x), o) at verdict_is

@@ -1,21 +1,31 @@
-// The numbers that a recorder gives for a run sheet, tested before a word of it is written: document 02, No. 1.
+//! The numbers that a recorder gives for a run sheet, tested before a word of it is written: document 02, No. 1.
 #![tactic(auto)]
 
 ghost use Rattle.std.specs.Prelude.{◌≡◌, ◌+◌, ◌*◌, ◌≤◌, ◌<◌, length};
 ghost use Rattle.protocol.specs.Base.{all};
-ghost use Rattle.protocol.specs.Recorder.{setting_from, numbers_per_entry, entry_in, entries_in, most_numbers};
+ghost use Rattle.protocol.specs.Recorder.{numbers_per_entry, entry_in, entries_in, most_numbers};
 ghost use Rattle.protocol.specs.Recorder.{setting_in_width, entry_in_width, entry_in_range, write_verdict};
-ghost use Rattle.sheet_numbers.specs.Numbered.{numbered_entry};
+ghost use Rattle.sheet_numbers.specs.Numbered.{numbered_setting, numbered_entry};
 
 use data_words::{first_fields_fit, is_time, zero_where_unused};
-use protocol::{Cause, Verdict};
+use protocol::Cause;
 
-// "six numbers an entry"; "more than 24,576 numbers" are too many
+/// "six numbers an entry"; "more than 24,576 numbers" are too many
 pub const NUMBERS_PER_ENTRY: usize = 6;
 
 const MOST_NUMBERS: usize = 24576;
 
-// An entry's six numbers, as they are given.
+/// A setting's five numbers, as they are given.
+#[derive(Clone, Copy)]
+pub struct SettingNumbers {
+    pub n: u32,
+    pub f: u32,
+    pub correct: u32,
+    pub drift: u32,
+    pub tightness: u32,
+}
+
+/// An entry's six numbers, as they are given.
 #[derive(Clone, Copy)]
 pub struct EntryNumbers {
     pub time: u32,
@@ -33,7 +43,7 @@ struct Tested {
     in_range: bool,
 }
 
-// "one list of six numbers an entry, in M1's order": entry i
+/// "one list of six numbers an entry, in M1's order": entry i
 pub fn entry_in(numbers: &[u32], i: usize) -> EntryNumbers
     requires { (i < 4096) × (numbers_per_entry * i + 5 < length numbers.now) }
     ensures { numbered_entry result ≡ entry_in numbers.now i }
@@ -50,14 +60,15 @@ pub fn entry_in(numbers: &[u32], i: usize) -> EntryNumbers
 }
 
 // "12 when a field exceeds its width": n, f, correct bits, drift and tightness
-fn setting_in_width(n: u32, f: u32, correct: u32, drift: u32, tightness: u32) -> bool
-    ensures { result ≡ setting_in_width (setting_from n f correct drift tightness) }
+#[tactic(auto, unfolding(protocol::specs::Recorder::setting_in_width))]
+fn setting_in_width(s: SettingNumbers) -> bool
+    ensures { result ≡ setting_in_width (numbered_setting s) }
 {
-    (n < 256) & ((f < 16) & ((correct < 65536) & ((drift < 4096) & (tightness < 65536))))
+    s.n < 256 && s.f < 16 && s.correct < 65536 && s.drift < 4096 && s.tightness < 65536
 }
 
-// "12 when a field exceeds its width or is set where 01 wants zero": an entry's six. The last test takes fields within their widths, so the
-// parts are joined by `&&`.
+// "12 when a field exceeds its width or is set where 01 wants zero": an entry's six.
+#[tactic(auto, unfolding(protocol::specs::Recorder::entry_in_width))]
 fn entry_in_width(e: EntryNumbers) -> bool
     ensures { result ≡ entry_in_width (numbered_entry e) }
 {
@@ -66,72 +77,57 @@ fn entry_in_width(e: EntryNumbers) -> bool
             && (e.head < 16
                 && (e.action < 16
                     && (e.sender < 16
-                        && (e.serial < 16
-                            && zero_where_unused(
-                                e.action as u8,
-                                e.sender as u8,
-                                e.serial as u8,
-                            ))))))
+                        && (e.serial < 16 && zero_where_unused(e.action, e.sender, e.serial))))))
 }
 
 // "6 for an action above 9 or a head or sender not below n"
+#[tactic(auto, unfolding(protocol::specs::Recorder::entry_in_range))]
 fn entry_in_range(n: u32, e: EntryNumbers) -> bool
     ensures { result ≡ entry_in_range n (numbered_entry e) }
 {
-    (e.action <= 9) & ((e.head < n) & (e.sender < n))
+    e.action <= 9 && e.head < n && e.sender < n
 }
 
-// Both tests of every entry, in one pass.
+// Both tests of every entry, in one pass: by `.all(..)` it would be two, and the check left its goal open.
+#[tactic(auto, using(crate::proofs::Tests::all_more))]
 fn test_entries(n: u32, numbers: &[u32]) -> Tested
     requires { length numbers.now ≤ most_numbers }
     ensures { (result.in_width ≡ all entry_in_width (entries_in numbers.now)) × (result.in_range ≡ all (entry_in_range n) (entries_in numbers.now)) }
 {
-    let count = numbers.len() / NUMBERS_PER_ENTRY;
     let mut in_width = true;
     let mut in_range = true;
-    let mut i: usize = 0;
-    while i < count {
+    for i in 0..numbers.len() / NUMBERS_PER_ENTRY {
         let e = entry_in(numbers, i);
-        in_width = in_width & entry_in_width(e);
-        in_range = in_range & entry_in_range(n, e);
-        i += 1;
+        in_width &= entry_in_width(e);
+        in_range &= entry_in_range(n, e);
     }
     Tested { in_width, in_range }
 }
 
-// The first of causes 1, 2, 12, 3, 6 and 5 that applies, in this order; room is the number of words of the buffer.
-pub fn write_verdict(
-    n: u32,
-    f: u32,
-    correct: u32,
-    drift: u32,
-    tightness: u32,
-    numbers: &[u32],
-    room: usize,
-) -> Verdict
-    ensures { result ≡ write_verdict (setting_from n f correct drift tightness) numbers.now room }
+/// The first of causes 1, 2, 12, 3, 6 and 5 that applies, in this order; room is the number of words of the buffer.
+#[tactic(auto, unfolding(protocol::specs::Recorder::write_verdict, protocol::specs::Recorder::setting_in_width))]
+pub fn write_verdict(setting: SettingNumbers, numbers: &[u32], room: usize) -> Result<(), Cause>
+    ensures { result ≡ write_verdict (numbered_setting setting) numbers.now room }
 {
     let len = numbers.len();
     if MOST_NUMBERS < len {
-        return Verdict::Refused(Cause::TooManyWords);
+        return Err(Cause::TooManyWords);
     }
-    if len % NUMBERS_PER_ENTRY == 0 {
-        let tested = test_entries(n, numbers);
-        let in_width = setting_in_width(n, f, correct, drift, tightness) & tested.in_width;
-        if in_width {
-            let first_fits = first_fields_fit(n as u8, f as u8, correct as u16);
-            if first_fits {
-                if tested.in_range {
-                    if room < 2 + 3 * (len / NUMBERS_PER_ENTRY) {
-                        return Verdict::Refused(Cause::ShortBuffer);
-                    }
-                    return Verdict::Accepted;
-                }
-                return Verdict::Refused(Cause::BadEntry);
-            }
-            return Verdict::Refused(Cause::BadFirstWord);
-        }
-        return Verdict::Refused(Cause::BadField);
+    if len % NUMBERS_PER_ENTRY != 0 {
+        return Err(Cause::BadLength);
     }
-    Verdict::Refused(Cause::BadLength)
+    let tested = test_entries(setting.n, numbers);
+    if !setting_in_width(setting) || !tested.in_width {
+        return Err(Cause::BadField);
+    }
+    if !first_fields_fit(setting.n as u8, setting.f as u8, setting.correct as u16) {
+        return Err(Cause::BadFirstWord);
+    }
+    if !tested.in_range {
+        return Err(Cause::BadEntry);
+    }
+    if room < 2 + 3 * (len / NUMBERS_PER_ENTRY) {
+        return Err(Cause::ShortBuffer);
+    }
+    Ok(())
 }

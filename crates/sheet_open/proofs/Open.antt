@@ -10,13 +10,15 @@ use lib.Dec.{ltb, eqb}
 use lib.ListN.{get_or}
 use borrow.Author.Tests.{ne_eqb}
 use Rattle.protocol.specs.declared.HeadRecord.{HeadRecord}
+use Rattle.protocol.specs.declared.HeadRow.{HeadRow}
 use Rattle.protocol.specs.declared.Action.{Action}
 use Rattle.protocol.specs.declared.Action.TheVariants.{Look}
 use Rattle.protocol.specs.declared.Setting.{Setting}
 use Rattle.protocol.specs.declared.Entry.{Entry}
-use Rattle.protocol.specs.declared.Frame.TheVariants.{NoFrame, Start}
+use Rattle.protocol.specs.Types.{NoFrame, Start}
 use Rattle.protocol.specs.Words.{has_sender, has_serial, setting_at, entry_at, entry_fits_at}
-use Rattle.protocol.specs.Record.{Kind, votes, adjusts, phase_of, marks_number}
+use Rattle.protocol.specs.declared.Kind.{Kind}
+use Rattle.protocol.specs.Record.{votes, adjusts, phase_of, marks_number}
 use Rattle.protocol.specs.Step.{number, has_mark, is_closed, is_spent, taken_as, action_of}
 use Rattle.protocol.specs.Row.{row_of}
 use Rattle.protocol.specs.Run.{History, record_of, frame_of, is_frame, input_of}
@@ -28,6 +30,7 @@ use Rattle.protocol.proofs.Valid.{Valid, fixed}
 use Rattle.protocol.proofs.Runs.{start_sent, sent_below}
 use Rattle.head_row.proofs.Rows.{early_read}
 use Rattle.head_open.proofs.Marks.{has_started, marks_below_128, made_of, not_spent}
+use Rattle.protocol.specs.Row.{no_row}
 use Rattle.sheet_state.specs.Arrays.{Stands}
 use Rattle.sheet_state.proofs.Standing.{valid_history, head_row, sender_row}
 use Rattle.sheet_open.specs.Open.{is_open, sender_passes, marks_at, IsInTable}
@@ -93,30 +96,28 @@ open_by g s v e h =
 
 -- BY THE ROWS: an entry after the first i
 
-marks_in : (r : HeadRecord) → get_or (row_of r) 1 0 ≡ marks_number r
-unfolding row_of
+marks_in : (r : HeadRecord) → (row_of r).marks.0 ≡ marks_number r
 marks_in r = refl
 
 -- the votes and the adjusts sent
-abbrev pub sent_in : Kind → List ℕ → ℕ
-sent_in votes row = get_or row 3 0
-sent_in adjusts row = get_or row 5 0
+abbrev pub sent_in : Kind → HeadRow → ℕ
+sent_in votes row = row.votes.sent
+sent_in adjusts row = row.adjusts.sent
 
 sent_in_lem : (k : Kind) (r : HeadRecord) → sent_in k (row_of r) ≡ (phase_of k r).sent
-unfolding row_of
 sent_in_lem votes r = refl
 sent_in_lem adjusts r = refl
 
-module _ {ws : List ℕ} {i : ℕ} {s : History} {heads : List (List ℕ)} (now : Stands ws i s heads) {e : Entry} (is : e ≡ entry_at ws i) where
-  pub start_passes : (at : ℕ) → at ≡ e.sender % 16 → e.action ≡ 2 → has_mark (get_or (get_or heads at []) 1 0) 1 ≡ sender_passes s e
+module _ {ws : List ℕ} {i : ℕ} {s : History} {heads : List HeadRow} (now : Stands ws i s heads) {e : Entry} (is : e ≡ entry_at ws i) where
+  pub start_passes : (at : ℕ) → at ≡ e.sender % 16 → e.action ≡ 2 → has_mark ((get_or heads at no_row).marks.0) 1 ≡ sender_passes s e
   start_passes at u a = rw (sender_row now is at u, marks_in (record_of (setting_at ws) s e.sender)) (start_sent_by (setting_at ws) s (valid_history now) e a)
 
   pub frame_passes : (k : Kind) (at : ℕ) → at ≡ e.sender % 16 → e.action ≡ delivery k
-      → (ltb e.serial (sent_in k (get_or heads at [])) && not (eqb e.sender e.head)) ≡ sender_passes s e
+      → (ltb e.serial (sent_in k (get_or heads at no_row)) && not (eqb e.sender e.head)) ≡ sender_passes s e
   frame_passes k at u a = rw (sender_row now is at u, sent_in_lem k (record_of (setting_at ws) s e.sender)) (frame_sent_by (setting_at ws) s (valid_history now) e k a)
 
   marks_of_head : marks_at heads e.head ≡ marks_number (record_of (setting_at ws) s e.head)
-  marks_of_head = ap (λ (row : List ℕ). get_or row 1 0) (head_row now is (e.head % 16) refl) ∙ marks_in (record_of (setting_at ws) s e.head)
+  marks_of_head = ap (λ (row : HeadRow). row.marks.0) (head_row now is (e.head % 16) refl) ∙ marks_in (record_of (setting_at ws) s e.head)
 
   -- what `is_open` asks of its caller
   pub in_table : entry_fits_at ws i ≡ true → IsInTable e heads
@@ -125,22 +126,22 @@ module _ {ws : List ℕ} {i : ℕ} {s : History} {heads : List (List ℕ)} (now 
       (omega arith, rw marks_of_head (marks_below_128 (record_of (setting_at ws) s e.head)))
 
   -- by the entry of the table at the index that is asked
-  module _ (t : List ℕ) (table_is : t ≡ open_actions) (inside : IsInTable e heads) (at j : ℕ) (u : at ≡ e.head % 16) (index_is : j ≡ open_index e.action (get_or (get_or heads at []) 1 0)) where
+  module _ (t : List ℕ) (table_is : t ≡ open_actions) (inside : IsInTable e heads) (at j : ℕ) (u : at ≡ e.head % 16) (index_is : j ≡ open_index e.action ((get_or heads at no_row).marks.0)) where
     table_says : is_open (setting_at ws) s e ≡ cond (eqb (get_or t j 0) no) (spent_at (setting_at ws) s e) (sender_passes s e)
     table_says =
         let few = inside.0 in
         rw (table_is, index_is, head_row now is at u, marks_in (record_of (setting_at ws) s e.head)) (open_by (setting_at ws) s (valid_history now) e (omega arith))
 
-    pub closed_there : get_or t j 0 ≡ no → (b : Bool) → b ≡ is_spent e.action (eqb (get_or (get_or heads at []) 10 0) 1) (eqb (get_or (get_or heads at []) 11 0) 1) → b ≡ is_open (setting_at ws) s e
+    pub closed_there : get_or t j 0 ≡ no → (b : Bool) → b ≡ is_spent e.action (eqb ((get_or heads at no_row).votes.early) 1) (eqb ((get_or heads at no_row).adjusts.early) 1) → b ≡ is_open (setting_at ws) s e
     closed_there says b spent =
         let r = record_of (setting_at ws) s e.head in
-        spent ∙ ap₂ (is_spent e.action) (early_read r votes (head_row now is at u)) (early_read r adjusts (head_row now is at u)) ∙ sym (table_says ∙ rw says refl)
+        spent ∙ ap₂ (is_spent e.action) (early_read votes r (head_row now is at u)) (early_read adjusts r (head_row now is at u)) ∙ sym (table_says ∙ rw says refl)
 
     pub open_there : get_or t j 0 ≢ no → (b : Bool) → b ≡ sender_passes s e → b ≡ is_open (setting_at ws) s e
     open_there says b passes = passes ∙ sym (table_says ∙ rw (ne_eqb (get_or t j 0) no says) refl)
 
 -- the same at the index that a head has in the array
-pub at_index : (heads : List (List ℕ)) (e : Entry) (at : ℕ) → at ≡ e.head % 16 → IsInTable e heads → (e.action < 10) × (get_or (get_or heads at []) 1 0 < 128)
+pub at_index : (heads : List HeadRow) (e : Entry) (at : ℕ) → at ≡ e.head % 16 → IsInTable e heads → (e.action < 10) × ((get_or heads at no_row).marks.0 < 128)
 at_index heads e at u inside = (inside.0, rw u inside.1)
 
 -- every action but 2, 5 and 8 passes

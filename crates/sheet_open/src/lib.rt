@@ -1,5 +1,5 @@
-// Cause 9 of an entry: whether its action is open. A table is asked for the action and its head's marks; tests on the sender stay
-// outside it.
+//! Cause 9 of an entry: whether its action is open. A table is asked for the action and its head's marks; tests on the sender stay
+//! outside it.
 #![tactic(auto)]
 
 ghost use Rattle.std.specs.Prelude.{◌≡◌, List, ℕ, ◌<◌};
@@ -9,8 +9,8 @@ ghost use Rattle.protocol.specs.OpenTable.{open_index, open_actions};
 ghost use Rattle.sheet_state.specs.Arrays.{Stands};
 ghost use Rattle.sheet_open.specs.Open.{is_open, sender_passes, IsInTable};
 
-use head_open::{has_mark, is_spent};
-use protocol::{Entry, Row, at, mark};
+use head_open::is_spent;
+use protocol::{Entry, HeadRow, Mark};
 use sheet_state::head_index;
 
 // A line for each action from 0 to 9, and on it the 128 settings of the marks: 1 where the action is open.
@@ -26,7 +26,7 @@ const OPEN: [u8; 1280] = *b"\
     11111111111111111111111111111111111111111111111111111111111111111111111111111111111111111111111111111111111111111111111111111111\
     00000000111111110000000011111111000000000000000000000000000000000000000011111111000000001111111100000000000000000000000000000000";
 
-// The table, to be taken once a sheet and lent: each use of a constant array writes it out on the stack.
+/// The table, to be taken once a sheet and lent: each use of a constant array writes it out on the stack.
 pub fn open_actions() -> [u8; 1280]
     ensures { result ≡ open_actions }
 {
@@ -43,38 +43,39 @@ fn open_index(a: u8, m: u32) -> usize
 
 // Whether the frame that an entry delivers, if any, was sent, and by another head if it is a vote or an adjust. Starts are told apart
 // by a test of their own, and the actions below 5 leave before the match, so that they take no indirect jump.
-fn sender_passes(e: Entry, heads: &[Row; 16]) -> bool
+// The action is a number, as `Entry` has it.
+fn sender_passes(e: Entry, heads: &[HeadRow; 16]) -> bool
     ensures { (ws : List ℕ) (i : ℕ) (s : History) → Stands ws i s heads.now → e ≡ entry_at ws i
         → result ≡ sender_passes s e }
 {
     let a = e.action;
     let p = head_index(e.sender);
     if a == 2 {
-        return has_mark(heads[p][at::MARKS], mark::START_SENT);
+        return heads[p].marks.has(Mark::StartSent);
     }
     if a < 5 {
         return true;
     }
     match a {
-        5 => ((e.serial as u32) < heads[p][at::VOTES_SENT]) & (e.sender != e.head),
-        8 => ((e.serial as u32) < heads[p][at::ADJUSTS_SENT]) & (e.sender != e.head),
+        5 => ((e.serial as u32) < heads[p].votes.sent) & (e.sender != e.head),
+        8 => ((e.serial as u32) < heads[p].adjusts.sent) & (e.sender != e.head),
         _ => true,
     }
 }
 
-// Whether an entry is open, by the table that is lent, or spent. The actions that can be spent have no sender.
-pub fn is_open(e: Entry, table: &[u8; 1280], heads: &[Row; 16]) -> bool
+/// Whether an entry is open, by the table that is lent, or spent. The actions that can be spent have no sender.
+pub fn is_open(e: Entry, table: &[u8; 1280], heads: &[HeadRow; 16]) -> bool
     requires { IsInTable e heads.now × (table.now ≡ open_actions) }
     ensures { (ws : List ℕ) (i : ℕ) (s : History) → Stands ws i s heads.now → e ≡ entry_at ws i
         → result ≡ is_open (setting_at ws) s e }
 {
     let h = head_index(e.head);
-    let i = open_index(e.action, heads[h][at::MARKS]);
+    let i = open_index(e.action, heads[h].marks.0);
     if table[i] == b'0' {
         return is_spent(
             e.action as u32,
-            heads[h][at::VOTE_EARLY] == 1,
-            heads[h][at::ADJUST_EARLY] == 1,
+            heads[h].votes.early == 1,
+            heads[h].adjusts.early == 1,
         );
     }
     sender_passes(e, heads)

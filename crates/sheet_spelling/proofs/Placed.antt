@@ -1,5 +1,5 @@
--- Words placed in a buffer: nothing, one part after the other, an entry's three stores, and a setting in front.
--- Main results: `placed_none`, `placed_length`, `placed_more`, `placed_three`, `words_joined`, `sheet_placed`.
+-- Words placed in a buffer: nothing, one part after the other, and a setting in front.
+-- Main results: `placed_none`, `placed_length`, `placed_more`, `words_joined`, `sheet_placed`.
 use mathlib.Core.Path.{◌≡◌, refl, sym, ◌∙◌, ap}
 use mathlib.Core.List.{List, [], ◌∷◌, ◌++◌, append_assoc}
 use Prim.Native.Nat.{ℕ, suc, ◌+◌, ◌≤◌}
@@ -9,7 +9,6 @@ use lib.Seq.{drop-append-add, drop-drop, take-append_seam}
 use Rattle.protocol.specs.declared.Setting.{Setting}
 use Rattle.protocol.specs.declared.Entry.{Entry}
 use Rattle.protocol.specs.Spelling.{time_word, reading_word, action_word, entry_words, sheet_of}
-use Rattle.protocol.proofs.Tables.{three_more}
 use Rattle.sheet_spelling.specs.Placed.{placed, setting_in_front}
 
 pub placed_none : (out : List ℕ) (at : ℕ) → placed out at [] ≡ out
@@ -42,14 +41,6 @@ module _ (out : List ℕ) (at : ℕ) (ws : List ℕ) (fits : at + length ws ≤ 
       ap (drop (at + length ws + length vs)) split ∙ ap (λ (k : ℕ). drop (k + length vs) (front ++ rest)) (sym long)
       ∙ drop-append-add front rest (length vs) ∙ drop-drop (length vs) (at + length ws) out ∙ ap (λ (k : ℕ). drop k out) both in
       rw (kept, left) (append_assoc (take at out) ws _ ∙ ap (λ (l : List ℕ). take at out ++ l) (sym (append_assoc ws vs _)))
-
--- three stores, one after the other
-pub placed_three : (out : List ℕ) (at a b c : ℕ) → at + 3 ≤ length out
-    → set (set (set out at a) (at + 1) b) (at + 2) c ≡ placed out at (a ∷ b ∷ c ∷ [])
-unfolding placed
-placed_three out at a b c h =
-    three_more (take at out) out out at (at + 3) a b c 0 (let l = length-take at out in omega arith) refl h (sym (take-append-drop at out))
-    ∙ append_assoc (take at out) (a ∷ b ∷ c ∷ []) (drop (at + 3) out)
 
 -- ENTRIES AND THE SETTING
 

@@ -1,14 +1,16 @@
 -- What a run keeps of its history: each head's row, and what each vote and adjust that was sent carries, by sender and serial.
 use Rattle.std.specs.Prelude.{◌≡◌, true, cond, List, ℕ, ◌/◌, ◌%◌, ltb, get_or}
 use Rattle.protocol.specs.declared.Setting.{Setting}
-use Rattle.protocol.specs.declared.Frame.{Frame}
+use Rattle.protocol.specs.declared.HeadRow.{HeadRow}
+use Rattle.protocol.specs.Types.{Frame}
 use Rattle.protocol.specs.declared.Stepped.{Stepped}
 use Rattle.protocol.specs.Base.{table}
 use Rattle.protocol.specs.Words.{setting_at, first_word_fits, entry_at, entry_fits_at}
-use Rattle.protocol.specs.Row.{row_of, sent_of}
+use Rattle.protocol.specs.Row.{row_of}
+use Rattle.head_row.specs.Sent.{sent_of}
 use Rattle.protocol.specs.Run.{Event, History, record_of, frame_sent, carried_choice, step_entry, ran, run_of}
 
-abbrev pub head_rows : Setting → History → List (List ℕ)
+abbrev pub head_rows : Setting → History → List HeadRow
 head_rows g s = table (λ q. row_of (record_of g s q)) 0 16
 
 -- votes stand at head × 16 + serial, adjusts 256 further: the action that delivers, the head and the serial at an index
@@ -38,7 +40,7 @@ abbrev pub event_at : List ℕ → ℕ → History → Event
 event_at ws i s = record { entry = entry_at ws i; after = (answer_at ws i s).after; frame = (answer_at ws i s).frame }
 
 -- the first i entries of a sheet are accepted, s is their history, and the rows are those of the heads after them
-pub record Stands (ws : List ℕ) (i : ℕ) (s : History) (heads : List (List ℕ)) : Type 0 where
+pub record Stands (ws : List ℕ) (i : ℕ) (s : History) (heads : List HeadRow) : Type 0 where
   pub first_fits : first_word_fits (get_or ws 0 0) ≡ true
   pub is_run : run_of ws i ≡ ran s
   pub heads_are : heads ≡ head_rows (setting_at ws) s

@@ -9,7 +9,7 @@ use lib.ListN.{length}
 use Rattle.protocol.specs.declared.Cause.{Cause}
 use Rattle.protocol.specs.declared.Entry.{Entry}
 use Rattle.protocol.specs.declared.Setting.{Setting}
-use Rattle.protocol.specs.declared.Verdict.TheVariants.{Accepted, Refused}
+use Rattle.protocol.specs.Types.{Accepted, Refused}
 use Rattle.protocol.specs.Base.{all, table}
 use Rattle.protocol.specs.Words.{place_of}
 use Rattle.protocol.specs.Spelling.{entry_words, sheet_of}

@@ -1,33 +1,22 @@
-// Prints, after every entry of a run sheet: its index, real time, head and action, then the head's candidate, adjuster
-// and adjustment (- for none) and outcome, and which phases the entry closed early: vote, adjust, both, or -. Its last line:
-// `refused`, the cause's number and the place; or `premises`, the first broken premise or 0, and where it was broken: `entry` and
-// its index, or `end`.
-// The sheet comes on standard input; it has at most 49,160 bytes, so one that fills the buffer is too long.
+//! Prints, after every entry of a run sheet: its index, real time, head and action, then the head's candidate, adjuster
+//! and adjustment (- for none) and outcome, and which phases the entry closed early: vote, adjust, both, or -. Its last line:
+//! `refused`, the cause's number and the place; or `premises`, the first broken premise or 0, and where it was broken: `entry` and
+//! its index, or `end`.
+//! The sheet comes on standard input; it has at most 49,160 bytes, so one that fills the buffer is too long.
 #![tactic(auto)]
 
 ghost use Rattle.std.specs.Prelude.{◌≡◌};
-ghost use Rattle.protocol.specs.declared.Verdict.TheVariants.{Accepted};
+ghost use Rattle.protocol.specs.Types.{Accepted};
 ghost use Rattle.protocol.specs.Causes.{sheet_verdict};
 
 use data_bytes::{big_endian, bytes_verdict};
-use protocol::Verdict;
 use read_input::fill;
 use sheet_open::open_actions;
-use sheet_words::sheet_verdict;
+use sheet_words::{entry_count, sheet_verdict};
 use std::io;
-use trace_entries::{Line, Traced, first_heads, trace_next};
-use trace_last::put_last_line;
-use trace_text::put_entry_line;
-
-fn print(rt: &impl Print, text: &[u8]) -> io::Result<()> {
-    rt.write_all(text)
-}
-
-fn print_line(rt: &impl Print, i: usize, l: Line) -> io::Result<()> {
-    let mut out = [0u8; 175];
-    let n = put_entry_line(i, l, &mut out);
-    print(rt, &out[..n])
-}
+use trace_entries::{first_heads, trace_next};
+use trace_last::last_line;
+use trace_text::EntryLine;
 
 // Prints the entries of an accepted sheet, up to one that is refused.
 fn print_entries(rt: &impl Print, sheet: &[u32]) -> io::Result<()>
@@ -38,9 +27,8 @@ fn print_entries(rt: &impl Print, sheet: &[u32]) -> io::Result<()>
     let mut choices = [0u8; 512];
     let mut carried = [0u32; 512];
     let mut time: u32 = 0;
-    let mut i: usize = 0;
-    loop {
-        let t = trace_next(
+    for i in 0..entry_count(sheet) {
+        let Ok(Some(line)) = trace_next(
             sheet,
             i,
             time,
@@ -48,47 +36,33 @@ fn print_entries(rt: &impl Print, sheet: &[u32]) -> io::Result<()>
             &mut heads,
             &mut choices,
             &mut carried,
-        );
-        match t {
-            Traced::After(l) => {
-                print_line(rt, i, l)?;
-                time = l.time.0;
-                i += 1;
-            }
-            Traced::RefusedAt(_, _) => return Ok(()),
-            Traced::Ended => return Ok(()),
-        }
+        ) else {
+            break;
+        };
+        let entry = EntryLine::of(i, line);
+        print!(rt; "{entry}")?;
+        time = line.time.0;
     }
+    Ok(())
 }
 
-fn print_sheet(rt: &impl Print, sheet: &[u32]) -> io::Result<()> {
-    let v = sheet_verdict(sheet);
-    match v {
-        Verdict::Refused(_) => Ok(()),
-        Verdict::Accepted => print_entries(rt, sheet),
-    }
-}
-
-fn print_words(rt: &impl Print, bytes: &[u8]) -> io::Result<()> {
-    let v = bytes_verdict(bytes);
-    match v {
-        Verdict::Refused(_) => Ok(()),
-        Verdict::Accepted => {
-            let words = big_endian(bytes);
-            print_sheet(rt, &words[..bytes.len() / 4])
-        }
-    }
-}
-
-fn print_last(rt: &impl Print, bytes: &[u8]) -> io::Result<()> {
-    let mut out = [0u8; 64];
-    let n = put_last_line(bytes, &mut out);
-    print(rt, &out[..n])
+fn print_bytes(rt: &impl Print, bytes: &[u8]) -> io::Result<()> {
+    let Ok(()) = bytes_verdict(bytes) else {
+        return Ok(());
+    };
+    let words = big_endian(bytes);
+    let sheet = &words[..bytes.len() / 4];
+    let Ok(()) = sheet_verdict(sheet) else {
+        return Ok(());
+    };
+    print_entries(rt, sheet)
 }
 
 fn main(rt: HostRuntime) -> io::Result<()> {
     let mut buffer = [0u8; 65536];
     let n = fill(&mut rt.stdin(), &mut buffer)?;
-    print_words(&rt, &buffer[..n])?;
-    print_last(&rt, &buffer[..n])
+    let bytes = &buffer[..n];
+    print_bytes(&rt, bytes)?;
+    let last = last_line(bytes);
+    print!(rt; "{last}")
 }

@@ -1,15 +1,28 @@
 -- What the program trace shows of an entry.
-use Rattle.std.specs.Prelude.{Bool, cond, not, ◌&&◌, List, [], ◌∷◌, ℕ, ◌+◌, ltb}
+use Rattle.std.specs.Prelude.{Bool, cond, not, ◌&&◌, List, [], ◌∷◌, ℕ, ◌+◌, ltb, Option, Some, None, Result, Ok, Err}
 use Rattle.protocol.specs.declared.HeadRecord.{HeadRecord}
 use Rattle.protocol.specs.declared.Setting.{Setting}
 use Rattle.protocol.specs.declared.Entry.{Entry}
+use Rattle.protocol.specs.declared.Cause.{Cause}
+use Rattle.protocol.specs.declared.Refusal.{Refusal}
 use Rattle.protocol.specs.Words.{setting_at, entry_count, entry_at}
 use Rattle.protocol.specs.Record.{votes, adjusts, outcome}
 use Rattle.protocol.specs.Run.{History, record_of, Run, stopped, ran, run_first}
 use Rattle.protocol.specs.Premises.{is_early}
 use Rattle.trace_entries.specs.declared.Line.{Line}
-use Rattle.trace_entries.specs.declared.Traced.{Traced}
-use Rattle.trace_entries.specs.declared.Traced.TheVariants.{After, RefusedAt, Ended}
+
+-- after an entry; where the run was refused; past the last entry
+abbrev pub Traced : Type 0
+Traced = Result (Option Line) Refusal
+
+pattern abbrev pub After : Line → Traced
+After l = Ok (Some l)
+
+abbrev pub RefusedAt : Cause → ℕ → Traced
+RefusedAt c p = Err (record { cause = c; place = p })
+
+pattern abbrev pub Ended : Traced
+Ended = Ok None
 
 -- the head's record after the entry, and whether it had closed its votes and its adjust phase early before
 unfoldable pub line_of : Entry → Bool → Bool → HeadRecord → Line

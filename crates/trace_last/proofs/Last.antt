@@ -1,25 +1,26 @@
 -- The judge's answer, and where the first broken premise was broken, are all of the last line.
--- Main results: `kept_line`, `broken_line_lem`, `refused_line_lem`; `cause_line`, `sheet_line`, `last_line_written`.
+-- Main results: `kept_line`, `broken_line_lem`, `refused_line_lem`; `cause_line`, `sheet_line`.
 use mathlib.Core.Path.{◌≡◌, refl, sym, ◌∙◌, ap}
 use mathlib.Core.Bool.{Bool, true, false}
 use mathlib.Core.List.{List, [], ◌∷◌}
 use Prim.Native.Nat.{ℕ, zero, suc, ◌+◌, ◌≤◌, ◌<◌}
 use native.Mathlib.Omega.{arith}
 use lib.ListN.{length}
+use Rattle.std.specs.Prelude.{Result, Ok, Err}
+use Rattle.protocol.specs.declared.Refusal.{Refusal}
 use Rattle.protocol.specs.declared.Cause.{Cause}
-use Rattle.protocol.specs.declared.Verdict.{Verdict}
-use Rattle.protocol.specs.declared.Verdict.TheVariants.{Accepted, Refused}
-use Rattle.protocol.specs.declared.Judged.{Judged}
-use Rattle.protocol.specs.declared.Judged.TheVariants.{Kept, Broken, Unjudged}
+use Rattle.protocol.specs.Types.{Verdict, Accepted, Refused, Judged, Kept, Broken, Unjudged}
 use Rattle.protocol.specs.Words.{setting_at}
 use Rattle.protocol.specs.Run.{Run, stopped, ran, run_sheet}
-use Rattle.protocol.specs.Premises.{premises, first_broken, judge_run, judge, is_asked_at_end, broken_at}
-use Rattle.protocol.specs.Program.{big_endian, bytes_verdict, refused_line, premises_line, broken_line, last_line_of, last_line, last_line_after, last_line_of_bytes}
+use Rattle.protocol.specs.Premises.{premises, first_broken, judge_run, judge, is_asked_at_end}
+use Rattle.protocol.specs.Program.{big_endian, bytes_verdict, refused_line, premises_line, broken_line, last_line_of, last_line, last_line_of_bytes}
 use Rattle.protocol.proofs.Tests.{absurd_bool, cases}
-use Rattle.print_text.specs.Written.{written}
-use Rattle.print_text.proofs.Texts.{Wrote, from_first}
-use Rattle.print_lines.proofs.Lengths.{refused_short, premises_short, broken_short}
 use Rattle.judge_run.specs.Where.{TellsWhere}
+
+-- the line of a refusal: `cc` takes equal records apart no further
+abbrev line_of : {A : Type 0} → Result A Refusal → List ℕ
+line_of (Ok _) = []
+line_of (Err x) = refused_line x.cause x.place
 
 -- A SHEET'S LINE
 
@@ -58,7 +59,7 @@ module _ (ws : List ℕ) (j : Judged) (is : j ≡ judge ws) where
   refused_line_lem c p k = rw (← is, k) (go (run_sheet ws) refl)
     where
       go : (x : Run) → run_sheet ws ≡ x → refused_line c p ≡ last_line_of (setting_at ws) (Unjudged c p) x
-      go (stopped d q) e = let same : Unjudged c p ≡ Unjudged d q = sym k ∙ judge_of (stopped d q) e in cc
+      go (stopped d q) e = let same : Unjudged c p ≡ Unjudged d q = sym k ∙ judge_of (stopped d q) e in ap (λ (x : Judged). line_of x) same
       go (ran h) e = refl
 
   pub broken_line_lem : (i k : ℕ) → j ≡ Broken i → TellsWhere (setting_at ws) (run_sheet ws) i k → broken_line i k ≡ last_line ws
@@ -82,26 +83,3 @@ module _ (bytes : List ℕ) (v : Verdict) (says : v ≡ bytes_verdict bytes) whe
   pub sheet_line : v ≡ Accepted → (ws : List ℕ) → ws ≡ big_endian bytes → last_line ws ≡ last_line_of_bytes bytes
   unfolding last_line_of_bytes
   sheet_line e ws is = rw (← says, e, is) refl
-
-last_short : (ws : List ℕ) → length (last_line ws) ≤ 64
-unfolding last_line
-last_short ws = go (run_sheet ws) (judge ws)
-  where
-    go : (x : Run) (j : Judged) → length (last_line_of (setting_at ws) j x) ≤ 64
-    go (stopped c p) j = refused_short c p
-    go (ran h) Kept = premises_short 0
-    go (ran h) (Broken i) = broken_short i (broken_at (setting_at ws) i h)
-    go (ran h) (Unjudged c p) = refused_short c p
-
-bytes_short : (bytes : List ℕ) → length (last_line_of_bytes bytes) ≤ 64
-unfolding last_line_of_bytes
-bytes_short bytes = go (bytes_verdict bytes)
-  where
-    go : (v : Verdict) → length (last_line_after v bytes) ≤ 64
-    go Accepted = last_short (big_endian bytes)
-    go (Refused c) = refused_short c 0
-
-pub last_line_written : (bytes out after text : List ℕ) (r : ℕ) → text ≡ last_line_of_bytes bytes → Wrote out after 0 r text
-    → (after ≡ written out 0 (last_line_of_bytes bytes)) × (r ≡ length (last_line_of_bytes bytes)) × (r ≤ 64)
-last_line_written bytes out after text r e w =
-    let bound = from_first out after text r 64 (rw e (bytes_short bytes)) (omega arith) w in (rw (← e) w.0, rw (← e) bound.0, bound.1)

@@ -1,41 +1,35 @@
-// The last line that trace prints: the cause of a sheet that is turned back; of another the first broken premise or 0, and where
-// it was broken.
+//! The last line that trace prints: the cause of a sheet that is turned back; of another the first broken premise or 0, and where
+//! it was broken.
 #![tactic(auto)]
 
 ghost use Rattle.std.specs.Prelude.{◌≡◌, ◌≤◌, length};
 ghost use Rattle.protocol.specs.Program.{last_line, last_line_of_bytes};
-ghost use Rattle.print_text.specs.Written.{written, end_of};
+ghost use Rattle.print_lines.specs.Lines.{last_text};
 
 use data_bytes::{big_endian, bytes_verdict};
 use judge_sheet::judge;
-use print_lines::{put_broken, put_premises, put_refused};
-use protocol::{Judged, Verdict};
+use print_lines::LastLine;
+use protocol::Refusal;
 use trace_broken::broken_at;
 
-fn put_sheet_line(sheet: &[u32], out: &mut [u8]) -> usize
-    ensures { (out.new ≡ written out.old 0 (last_line sheet.now)) × (result ≡ end_of 0 (last_line sheet.now)) }
+fn line_of_sheet(sheet: &[u32]) -> LastLine
+    ensures { last_text result ≡ last_line sheet.now }
 {
-    let j = judge(sheet);
-    match j {
-        Judged::Kept => put_premises(0, out, 0),
-        Judged::Broken(i) => {
-            let k = broken_at(sheet, i);
-            put_broken(i, k, out, 0)
-        }
-        Judged::Unjudged(c, place) => put_refused(c, place, out, 0),
+    match judge(sheet) {
+        Ok(None) => LastLine::Premises(0),
+        Ok(Some(i)) => LastLine::broken(i, broken_at(sheet, i)),
+        Err(Refusal { cause, place }) => LastLine::Refused(cause, place),
     }
 }
 
-// What is printed last of a sheet's bytes.
-pub fn put_last_line(bytes: &[u8], out: &mut [u8]) -> usize
-    ensures { (out.new ≡ written out.old 0 (last_line_of_bytes bytes.now)) × (result ≡ length (last_line_of_bytes bytes.now)) × (result ≤ 64) }
+/// The last line of a sheet's bytes.
+pub fn last_line(bytes: &[u8]) -> LastLine
+    ensures text { last_text result ≡ last_line_of_bytes bytes.now }
+    ensures short { length (last_text result) ≤ 64 }
 {
-    let v = bytes_verdict(bytes);
-    match v {
-        Verdict::Refused(c) => put_refused(c, 0, out, 0),
-        Verdict::Accepted => {
-            let words = big_endian(bytes);
-            put_sheet_line(&words[..bytes.len() / 4], out)
-        }
+    if let Err(cause) = bytes_verdict(bytes) {
+        return LastLine::Refused(cause, 0);
     }
+    let words = big_endian(bytes);
+    line_of_sheet(&words[..bytes.len() / 4])
 }

@@ -1,67 +1,40 @@
--- A line by its fields, and how long it can be.
--- Main results: `field_next`, `fields_line`, `entry_line_written`.
-use mathlib.Core.Path.{◌≡◌, refl, sym, ◌∙◌, ap}
-use mathlib.Core.Bool.{Bool, true, false}
-use mathlib.Core.List.{List, [], ◌∷◌, ◌++◌, append_assoc}
-use Prim.Native.Nat.{ℕ, ◌^◌, ◌≤◌, ◌<◌}
-use native.Mathlib.Omega.{arith}
-use lib.ListN.{length}
-use Rattle.protocol.specs.declared.OptNumber.{OptNumber}
-use Rattle.protocol.specs.declared.OptNumber.TheVariants.{NoNumber, SomeNumber}
+-- An entry's line in the digits that std prints.
+-- Main results: `same_choice`, `same_number`, `entry_digits`, `entry_line`.
+use Rattle.std.proofs.Common.{◌≡◌, refl, ap, ℕ, ◌<◌, ◌^◌, [], ◌∷◌, arith}
+use Rattle.std.specs.Prelude.{decimal as std_decimal, Option, Some, None, MatchOption, IsSomeAnd}
+use Rattle.std.specs.Option.{option_and}
 use Rattle.protocol.specs.Program.{decimal, line}
-use Rattle.print_text.specs.Written.{written}
-use Rattle.print_text.proofs.Texts.{Wrote, from_first}
-use Rattle.print_lines.proofs.Lines.{and_then}
-use Rattle.print_lines.proofs.Lengths.{any_number, length_line}
+use Rattle.print_lines.proofs.Digits.{decimal_same}
 use Rattle.trace_entries.specs.declared.Line.{Line}
-use Rattle.trace_text.specs.Text.{number_text, choice_text, early_text, fields, entry_text}
+use Rattle.trace_text.specs.declared.EntryLine.{EntryLine}
+use Rattle.trace_text.specs.Text.{number_text, choice_text, early_text, entry_text, line_text}
 
--- a field, and those behind it
-pub field_next : (out a b : List ℕ) (at p r : ℕ) (x : List ℕ) (l : List (List ℕ)) → length out < 2 ^ 64 → Wrote out a at p (x ++ (32 ∷ []))
-    → (length a < 2 ^ 64 → Wrote a b p r (fields l)) → Wrote out b at r (fields (x ∷ l))
-unfolding fields
-field_next out a b at p r x l h w k = rw (← append_assoc x (32 ∷ []) (fields l)) (and_then out a b at p r (x ++ (32 ∷ [])) (fields l) h w k)
+-- a number that was made wider
+pub same_choice : (k m : Option ℕ) → MatchOption k (m ≡ None) (λ x. IsSomeAnd m (λ y. y ≡ x)) → choice_text m ≡ choice_text k
+same_choice None m e = ap choice_text e
+same_choice (Some x) None e = absurd e
+same_choice (Some x) (Some y) e = ap decimal e
 
--- fields, and the rest of the line
-pub fields_line : (l : List (List ℕ)) (y : List ℕ) (m : List (List ℕ)) → line (l ++ (y ∷ m)) ≡ fields l ++ line (y ∷ m)
-unfolding line fields
-fields_line [] y m = refl
-fields_line (x ∷ []) y m = sym (append_assoc x (32 ∷ []) (line (y ∷ m)))
-fields_line (x ∷ z ∷ l) y m =
-    ap (λ (t : List ℕ). x ++ (32 ∷ t)) (fields_line (z ∷ l) y m) ∙ sym (append_assoc x (32 ∷ fields (z ∷ l)) (line (y ∷ m)))
+pub same_number : (k : Option ℕ) (x : ℕ) → choice_text (option_and k (Some x)) ≡ number_text k x
+same_number None x = refl
+same_number (Some k) x = refl
 
--- A LINE'S LENGTH
+pub entry_digits : (x : EntryLine) → x.index < 2 ^ 64 → x.time < 2 ^ 32 → x.head < 2 ^ 8 → x.action < 2 ^ 8 → x.outcome < 2 ^ 8
+    → line (std_decimal x.index ∷ std_decimal x.time ∷ std_decimal x.head ∷ std_decimal x.action ∷ choice_text x.candidate ∷ choice_text x.adjuster
+    ∷ choice_text x.adjustment ∷ std_decimal x.outcome ∷ early_text x.early.votes x.early.adjusts ∷ []) ≡ line_text x
+unfolding line_text
+entry_digits x i t h a o =
+    rw (
+      decimal_same x.index (omega arith),
+      decimal_same x.time (omega arith),
+      decimal_same x.head (omega arith),
+      decimal_same x.action (omega arith),
+      decimal_same x.outcome (omega arith),
+    ) refl
 
-choice_short : (k : OptNumber) → length (choice_text k) ≤ 20
-choice_short NoNumber = omega arith
-choice_short (SomeNumber k) = any_number k
-
-number_short : (k : OptNumber) (x : ℕ) → length (number_text k x) ≤ 20
-number_short NoNumber x = omega arith
-number_short (SomeNumber k) x = any_number x
-
-early_short : (votes adjusts : Bool) → length (early_text votes adjusts) ≤ 6
-early_short true true = omega arith
-early_short true false = omega arith
-early_short false true = omega arith
-early_short false false = omega arith
-
-entry_short : (i : ℕ) (l : Line) → length (entry_text i l) ≤ 175
-unfolding entry_text
-entry_short i l =
-    let a = any_number i in
-    let b = any_number l.time.0 in
-    let c = any_number l.head in
-    let d = any_number l.action in
-    let e = choice_short l.candidate in
-    let f = choice_short l.adjuster in
-    let g = number_short l.adjuster l.adjustment.0 in
-    let h = any_number l.outcome in
-    let j = early_short l.early.votes l.early.adjusts in
-    rw (length_line
-    (decimal i ∷ decimal l.time.0 ∷ decimal l.head ∷ decimal l.action ∷ choice_text l.candidate ∷ choice_text l.adjuster
-    ∷ number_text l.adjuster l.adjustment.0 ∷ decimal l.outcome ∷ early_text l.early.votes l.early.adjusts ∷ [])) (omega arith)
-
-pub entry_line_written : (i : ℕ) (l : Line) (out after : List ℕ) (r : ℕ) → Wrote out after 0 r (entry_text i l)
-    → (after ≡ written out 0 (entry_text i l)) × (r ≡ length (entry_text i l)) × (r ≤ 175)
-entry_line_written i l out after r w = let bound = from_first out after (entry_text i l) r 175 (entry_short i l) (omega arith) w in (w.0, bound.0, bound.1)
+pub entry_line : (i : ℕ) (l : Line) (k a x : Option ℕ) → choice_text k ≡ choice_text l.candidate → choice_text a ≡ choice_text l.adjuster
+    → choice_text x ≡ number_text l.adjuster l.adjustment.0
+    → line_text (record { index = i; time = l.time.0; head = l.head; action = l.action; candidate = k; adjuster = a; adjustment = x; outcome = l.outcome; early = l.early })
+    ≡ entry_text i l
+unfolding line_text entry_text
+entry_line i l k a x ek ea ex = rw (ek, ea, ex) refl

@@ -1,26 +1,17 @@
 -- The line that the program trace prints after an entry.
-use Rattle.std.specs.Prelude.{Bool, true, false, List, [], ◌∷◌, ◌++◌, ℕ}
-use Rattle.protocol.specs.declared.OptNumber.{OptNumber}
-use Rattle.protocol.specs.declared.OptNumber.TheVariants.{NoNumber, SomeNumber}
+use Rattle.std.specs.Prelude.{Bool, true, false, List, [], ◌∷◌, ℕ, Option, Some, None}
 use Rattle.protocol.specs.Program.{decimal, line}
 use Rattle.trace_entries.specs.declared.Line.{Line}
+use Rattle.trace_text.specs.declared.EntryLine.{EntryLine}
 
 -- the number, or `-` where k is none: k itself, or the adjustment beside an adjuster k
-abbrev pub number_text : OptNumber → ℕ → List ℕ
-number_text NoNumber x = 45 ∷ []
-number_text (SomeNumber k) x = decimal x
+abbrev pub number_text : Option ℕ → ℕ → List ℕ
+number_text None x = 45 ∷ []
+number_text (Some k) x = decimal x
 
-abbrev pub choice_text : OptNumber → List ℕ
-choice_text NoNumber = 45 ∷ []
-choice_text (SomeNumber k) = decimal k
-
--- fields, and a blank behind each
-unfoldable pub fields : List (List ℕ) → List ℕ
-fields [] = []
-fields (x ∷ l) = x ++ (32 ∷ fields l)
-
-abbrev pub entry_fields : ℕ → ℕ → ℕ → ℕ → List ℕ
-entry_fields i t h a = fields (decimal i ∷ decimal t ∷ decimal h ∷ decimal a ∷ [])
+abbrev pub choice_text : Option ℕ → List ℕ
+choice_text None = 45 ∷ []
+choice_text (Some k) = decimal k
 
 -- `vote`, `adjust` or `both` for the phases that the entry closed early, else `-`
 abbrev pub early_text : Bool → Bool → List ℕ
@@ -34,3 +25,9 @@ unfoldable pub entry_text : ℕ → Line → List ℕ
 entry_text i l =
     line (decimal i ∷ decimal l.time.0 ∷ decimal l.head ∷ decimal l.action ∷ choice_text l.candidate ∷ choice_text l.adjuster
     ∷ number_text l.adjuster l.adjustment.0 ∷ decimal l.outcome ∷ early_text l.early.votes l.early.adjusts ∷ [])
+
+-- the same of the values that are printed
+unfoldable pub line_text : EntryLine → List ℕ
+line_text x =
+    line (decimal x.index ∷ decimal x.time ∷ decimal x.head ∷ decimal x.action ∷ choice_text x.candidate ∷ choice_text x.adjuster
+    ∷ choice_text x.adjustment ∷ decimal x.outcome ∷ early_text x.early.votes x.early.adjusts ∷ [])

@@ -1,75 +1,95 @@
-// The line that trace prints after an entry: index, real time, head, action, candidate, adjuster, adjustment, outcome, and the phases
-// that the entry closed early, with `-` where there is none.
+//! The line that trace prints after an entry: index, real time, head, action, candidate, adjuster, adjustment, outcome, and the phases
+//! that the entry closed early, with `-` where there is none.
 #![tactic(auto)]
 
-ghost use Rattle.std.specs.Prelude.{◌≡◌, [], ◌∷◌, ◌++◌, ◌≤◌, length};
-ghost use Rattle.print_text.specs.Written.{written, end_of};
-ghost use Rattle.trace_text.specs.Text.{choice_text, number_text, early_text, entry_fields, entry_text};
+ghost use Rattle.std.specs.Prelude.{◌≡◌, ◌≤◌, length, Some};
+ghost use Rattle.trace_text.specs.Text.{choice_text, early_text, entry_text, line_text};
 
-use print_lines::{NEWLINE, put_field};
-use print_text::{put, put_text};
-use protocol::OptNumber;
-use trace_entries::Line;
+use std::fmt;
+use trace_entries::{Early, Line};
 
-// A candidate or an adjuster, and the blank behind it.
-fn put_choice(k: OptNumber, out: &mut [u8], at: usize) -> usize
-    ensures { (out.new ≡ written out.old at (choice_text k ++ (32 ∷ []))) × (result ≡ end_of at (choice_text k ++ (32 ∷ []))) }
-{
-    match k {
-        OptNumber::NoNumber => put_text(out, at, b"- "),
-        OptNumber::SomeNumber(x) => put_field(x as u64, out, at),
+// A number, or - for none.
+#[derive(Clone, Copy)]
+struct OrDash(Option<u32>);
+
+impl fmt::Display for OrDash {
+    ghost output = { λ x. Some (choice_text x.0) };
+
+    #[tactic(auto, using(print_lines::proofs::Digits::decimal_same))]
+    fn fmt<W: fmt::Write>(&self, f: &mut fmt::Formatter<W>) -> fmt::Result {
+        match self.0 {
+            None => write!(f, "-"),
+            Some(x) => write!(f, "{x}"),
+        }
     }
-}
-
-// The adjustment of a head that has an adjuster, and the blank behind it.
-fn put_adjustment(adjuster: OptNumber, x: u32, out: &mut [u8], at: usize) -> usize
-    ensures { (out.new ≡ written out.old at (number_text adjuster x ++ (32 ∷ []))) × (result ≡ end_of at (number_text adjuster x ++ (32 ∷ []))) }
-{
-    match adjuster {
-        OptNumber::NoNumber => put_text(out, at, b"- "),
-        OptNumber::SomeNumber(_) => put_field(x as u64, out, at),
-    }
-}
-
-// An entry's index, real time, head and action.
-fn put_entry(i: usize, time: u32, head: u8, action: u8, out: &mut [u8], at: usize) -> usize
-    ensures { (out.new ≡ written out.old at (entry_fields i time head action)) × (result ≡ end_of at (entry_fields i time head action)) }
-{
-    let p = put_field(i as u64, out, at);
-    let p = put_field(time as u64, out, p);
-    let p = put_field(head as u64, out, p);
-    put_field(action as u64, out, p)
 }
 
 // The phases that an entry closed early.
-fn put_early(votes: bool, adjusts: bool, out: &mut [u8], at: usize) -> usize
-    ensures { (out.new ≡ written out.old at (early_text votes adjusts)) × (result ≡ end_of at (early_text votes adjusts)) }
+fn early_word(early: Early) -> &'static str
+    ensures { result.now ≡ early_text early.votes early.adjusts }
 {
-    if votes {
-        if adjusts {
-            put_text(out, at, b"both")
-        } else {
-            put_text(out, at, b"vote")
-        }
-    } else {
-        if adjusts {
-            put_text(out, at, b"adjust")
-        } else {
-            put_text(out, at, b"-")
+    match (early.votes, early.adjusts) {
+        (true, true) => "both",
+        (true, false) => "vote",
+        (false, true) => "adjust",
+        (false, false) => "-",
+    }
+}
+
+/// An entry and its head after it, as they are printed.
+#[derive(Clone, Copy)]
+pub struct EntryLine {
+    pub index: usize,
+    pub time: u32,
+    pub head: u8,
+    pub action: u8,
+    pub candidate: Option<u32>,
+    pub adjuster: Option<u32>,
+    pub adjustment: Option<u32>,
+    pub outcome: u8,
+    pub early: Early,
+}
+
+impl EntryLine {
+    /// Of entry `index`. Only a head that has an adjuster has an adjustment.
+    #[tactic(auto, using(crate::proofs::Lengths::entry_short))]
+    pub fn of(index: usize, line: Line) -> EntryLine
+        ensures text { line_text result ≡ entry_text index line }
+        ensures short { length (line_text result) ≤ 175 }
+    {
+        EntryLine {
+            index,
+            time: line.time.0,
+            head: line.head,
+            action: line.action,
+            candidate: line.candidate.map(u32::from),
+            adjuster: line.adjuster.map(u32::from),
+            adjustment: line.adjuster.and(Some(line.adjustment.0)),
+            outcome: line.outcome,
+            early: line.early,
         }
     }
 }
 
-pub fn put_entry_line(i: usize, l: Line, out: &mut [u8]) -> usize
-    ensures { (out.new ≡ written out.old 0 (entry_text i l)) × (result ≡ length (entry_text i l)) × (result ≤ 175) }
-{
-    let candidate = l.candidate;
-    let adjuster = l.adjuster;
-    let p = put_entry(i, l.time.0, l.head, l.action, out, 0);
-    let p = put_choice(candidate, out, p);
-    let p = put_choice(adjuster, out, p);
-    let p = put_adjustment(adjuster, l.adjustment.0, out, p);
-    let p = put_field(l.outcome as u64, out, p);
-    let p = put_early(l.early.votes, l.early.adjusts, out, p);
-    put(out, p, NEWLINE)
+impl fmt::Display for EntryLine {
+    ghost output = { λ x. Some (line_text x) };
+
+    fn fmt<W: fmt::Write>(&self, f: &mut fmt::Formatter<W>) -> fmt::Result {
+        let EntryLine {
+            index,
+            time,
+            head,
+            action,
+            outcome,
+            ..
+        } = *self;
+        let candidate = OrDash(self.candidate);
+        let adjuster = OrDash(self.adjuster);
+        let adjustment = OrDash(self.adjustment);
+        let early = early_word(self.early);
+        writeln!(
+            f,
+            "{index} {time} {head} {action} {candidate} {adjuster} {adjustment} {outcome} {early}"
+        )
+    }
 }

@@ -13,7 +13,7 @@ use std::collections::BTreeMap;
 use std::process::ExitCode;
 
 use reference::ask::seed_and_count;
-use reference::board::{all_spoken, edges, same_counter, with_vote};
+use reference::board::{all_spoken, at, edges, same_counter, with_vote};
 use reference::board::{Both, InputNumbers, NUMBERS};
 use reference::medians::{draw_readings, evens, EVENS};
 use reference::random::Random;
@@ -374,16 +374,16 @@ fn voted(random: &mut Random, both: &Both, record: &Record) -> Both {
     let sender = random.pick(&[any, any, record.own]) as usize;
     if random.chance(1, 4) {
         // No candidate, no mark for it and no votes sent.
-        head[1] &= !64;
-        head[2] = 0;
-        head[3] = 0;
+        head[at::MARKS] &= !64;
+        head[at::CANDIDATE] = 0;
+        head[at::VOTES_SENT] = 0;
         if random.chance(1, 2) {
-            head[32..48].fill(0);
+            head[at::VOTE_READINGS].fill(0);
         }
     }
     let reading = 1 + random.below(1 << 28) as u32;
     let other = 1 + random.below(record.n.into()) as u32;
-    let named = random.pick(&[0, head[2], other, other]);
+    let named = random.pick(&[0, head[at::CANDIDATE], other, other]);
     both.damaged(with_vote(&head, sender, reading, named))
 }
 
@@ -400,9 +400,9 @@ fn named_ahead(random: &mut Random, both: &Both, record: &Record) -> Both {
             }
         }
         // Vote close, adjust turn and adjust close.
-        head[1] &= !(8 | 16 | 32);
-        head[10] = 0;
-        head[11] = 0;
+        head[at::MARKS] &= !(8 | 16 | 32);
+        head[at::VOTE_EARLY] = 0;
+        head[at::ADJUST_EARLY] = 0;
     }
     both.damaged(head)
 }
@@ -413,24 +413,27 @@ fn before_turn(random: &mut Random, both: &Both, record: &Record) -> Both {
     let mut head = both.head;
     let n = record.n as usize;
     if record.candidate.is_none() {
-        head[1] |= 64;
-        head[2] = 1 + random.below(record.n.into()) as u32;
-        head[3] = 1;
+        head[at::MARKS] |= 64;
+        head[at::CANDIDATE] = 1 + random.below(record.n.into()) as u32;
+        head[at::VOTES_SENT] = 1;
     }
     // Vote close, but neither adjust turn nor adjust close.
-    head[1] = head[1] & !(16 | 32) | 8;
-    head[4..7].fill(0);
-    head[11] = 0;
+    head[at::MARKS] = head[at::MARKS] & !(16 | 32) | 8;
+    head[at::ADJUSTER] = 0;
+    head[at::ADJUSTS_SENT] = 0;
+    head[at::ADJUSTMENT] = 0;
+    head[at::ADJUST_EARLY] = 0;
     let any = 1 + random.index(n);
     let count = random.pick(&[2, n, any]);
     let mut senders: Vec<usize> = (0..n).collect();
     random.shuffle(&mut senders);
-    head[32..48].fill(0);
+    head[at::VOTE_READINGS].fill(0);
     for (&sender, reading) in senders.iter().zip(draw_readings(random, count)) {
-        head = with_vote(&head, sender, 1 + reading, head[2]);
+        head = with_vote(&head, sender, 1 + reading, head[at::CANDIDATE]);
     }
     if random.chance(1, 8) {
-        head[32 + senders[0]] = random.pick(&[1 + TIME_LIMIT, 1 << 29, 1 << 31, u32::MAX]);
+        head[at::VOTE_READINGS.start + senders[0]] =
+            random.pick(&[1 + TIME_LIMIT, 1 << 29, 1 << 31, u32::MAX]);
     }
     both.damaged(head)
 }
@@ -440,18 +443,18 @@ fn before_turn(random: &mut Random, both: &Both, record: &Record) -> Both {
 fn spoken(random: &mut Random, both: &Both) -> Both {
     let mut head = both.head;
     if random.chance(1, 2) {
-        head[1] = head[1] & !7 | random.pick(&[0, 1, 3, 7]);
+        head[at::MARKS] = head[at::MARKS] & !7 | random.pick(&[0, 1, 3, 7]);
     }
     match random.below(3) {
         0 => {
             // Vote close, adjust turn and adjust close.
-            head[1] &= !(8 | 16 | 32);
-            head[10] = 0;
-            head[11] = 0;
+            head[at::MARKS] &= !(8 | 16 | 32);
+            head[at::VOTE_EARLY] = 0;
+            head[at::ADJUST_EARLY] = 0;
         }
         1 => {
-            head[1] &= !32;
-            head[11] = 0;
+            head[at::MARKS] &= !32;
+            head[at::ADJUST_EARLY] = 0;
         }
         _ => {}
     }

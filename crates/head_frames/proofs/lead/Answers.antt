@@ -1,3 +1,4 @@
+use Rattle.std.proofs.Common.{rules}
 use Rattle.head_frames.proofs.Sends.{lead_votes, lead_waits}
 use Rattle.head_frames.proofs.lead.Goals as goal
 

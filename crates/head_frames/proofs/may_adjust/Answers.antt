@@ -1,3 +1,4 @@
+use Rattle.std.proofs.Common.{rules}
 use Rattle.head_frames.proofs.Sends.{may_adjust_with, may_not_adjust, may_not_adjust_again}
 use Rattle.head_frames.proofs.may_adjust.Goals as goal
 

@@ -1,3 +1,4 @@
+use Rattle.std.proofs.Common.{rules}
 use Rattle.head_frames.proofs.Sends.{may_lead_with, may_not_lead}
 use Rattle.head_frames.proofs.may_lead.Goals as goal
 

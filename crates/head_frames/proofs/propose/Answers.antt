@@ -1,3 +1,4 @@
+use Rattle.std.proofs.Common.{rules}
 use Rattle.head_frames.proofs.Sends.{propose_adjusts, propose_waits}
 use Rattle.head_frames.proofs.propose.Goals as goal
 

@@ -3,4 +3,4 @@ use Rattle.head_median.proofs.Records.{votes_read}
 use Rattle.head_median.proofs.votes_held.Goals as goal
 
 pub returns : goal.returns
-returns c = λ r is f. c.readings_below.ensures ∙ votes_read _ r is f
+returns c = λ r is f. (rw c.head_count.ensures at c.readings_below.ensures) ∙ votes_read c.args.row.now r is f

@@ -1,4 +1,5 @@
 use Rattle.head_record.proofs.Frames.{is_start, is_vote, is_adjust, is_none}
+use borrow.Author.Rules.{rules}
 use Rattle.head_record.proofs.frame_in.Goals as goal
 
 pub returns-in-2 : goal.returns-in-2

@@ -1,4 +1,5 @@
 use mathlib.Core.Path.{refl}
+use borrow.Author.Rules.{rules}
 use Rattle.head_record.proofs.row_of.Goals as goal
 
 pub returns : goal.returns

@@ -1,4 +1,4 @@
-use Rattle.std.proofs.Common.{refl, ◌∙◌}
+use Rattle.std.proofs.Common.{refl, ◌∙◌, rules}
 use Rattle.protocol.specs.Step.{taken_as}
 use Rattle.head_step.proofs.Inputs.{carried_by, carried_written, carried_below, action_is, only_look, input_acts, plain_acts, look_acts}
 use Rattle.head_step.proofs.act.Goals as goal
@@ -29,7 +29,7 @@ returns-in-5 c =
     (c.reading_plus_1.ensures ∙ carried_written i sized) (carried_below i sized))
 
 pub returns-in-6 : goal.returns-in-6
-returns-in-6 c = λ sized. input_acts _ sized _ _ _ _ (action_is _ 6 c.in-6.is) c.vote_close.ensures
+returns-in-6 c = λ sized. input_acts _ sized _ _ _ _ (action_is _ 6 c.in-6.is) c.close.ensures
 
 pub returns-in-7 : goal.returns-in-7
 returns-in-7 c = λ sized. input_acts _ sized _ _ _ _ (action_is _ 7 c.in-7.is) c.adjust_turn.ensures
@@ -42,7 +42,7 @@ returns-in-8 c =
     (c.adjust_delivered.ensures sized.sender sized.serial sized.choice)
 
 pub returns-in-9 : goal.returns-in-9
-returns-in-9 c = λ sized. input_acts _ sized _ _ _ _ (action_is _ 9 c.in-9.is) c.adjust_close.ensures
+returns-in-9 c = λ sized. input_acts _ sized _ _ _ _ (action_is _ 9 c.in-9.is) c.close-in-9.ensures
 
 pub returns-in_default : goal.returns-in_default
 returns-in_default c =

@@ -1,39 +1,30 @@
-use Rattle.protocol.proofs.Tests.{not_true, not_false}
+use mathlib.Core.Path.{◌≡◌, refl, sym, ◌∙◌, ap}
+use mathlib.Core.Bool.{Bool, false, cond}
+use mathlib.Core.List.{List, []}
+use Prim.Native.Nat.{ℕ, suc, ◌+◌, ◌<◌}
+use native.Mathlib.Numerals.{add-one}
+use native.Mathlib.Omega.{arith}
+use lib.ListN.{length, get_or, drop}
+use Rattle.std.proofs.Math.ListN.{drop_of_length-le}
+use Rattle.std.proofs.Math.Seq.{drop-cons}
+use Rattle.protocol.specs.Types.{Judged, Broken}
 use Rattle.protocol.specs.Premises.{first_broken}
 use Rattle.judge_end.proofs.first_broken.Goals as goal
 
-pub returns-then-not-p1 : goal.returns-then-not-p1
+next : (l : List Bool) (i : ℕ) (d : Bool) → i < length l → first_broken (suc i) (drop i l) ≡ cond (get_or l i d) (first_broken (suc (suc i)) (drop (suc i) l)) (Broken (suc i))
 unfolding first_broken
-returns-then-not-p1 c = simp (not_true {b = c.args.p1} c.if-not-p1.true-raw)
+next l i d lt = rw (drop-cons l i d lt) refl
 
-pub returns-then-not-p2 : goal.returns-then-not-p2
-unfolding first_broken
-returns-then-not-p2 c = simp (not_true {b = c.args.p2} c.if-not-p2.true-raw, not_false {b = c.args.p1} c.if-not-p1.false-raw)
+pub returns-then-not-is_kept : goal.returns-then-not-is_kept
+returns-then-not-is_kept c =
+    let i = c.loop-i.i in
+    sym (c.loop-i.invariant ∙ next c.args.kept.now i false (omega (arith, c.told-kept, c.loop-i-test.true)) ∙ rw (c.if-not-is_kept.true, add-one i) refl)
 
-pub returns-then-not-p3 : goal.returns-then-not-p3
-unfolding first_broken
-returns-then-not-p3 c = simp (not_true {b = c.args.p3} c.if-not-p3.true-raw, not_false {b = c.args.p2} c.if-not-p2.false-raw, not_false {b = c.args.p1} c.if-not-p1.false-raw)
-
-pub returns-then-not-p4 : goal.returns-then-not-p4
-unfolding first_broken
-returns-then-not-p4 c = simp (not_true {b = c.args.p4} c.if-not-p4.true-raw, not_false {b = c.args.p3} c.if-not-p3.false-raw, not_false {b = c.args.p2} c.if-not-p2.false-raw, not_false {b = c.args.p1} c.if-not-p1.false-raw)
-
-pub returns-then-not-p5 : goal.returns-then-not-p5
-unfolding first_broken
-returns-then-not-p5 c = simp (not_true {b = c.args.p5} c.if-not-p5.true-raw, not_false {b = c.args.p4} c.if-not-p4.false-raw, not_false {b = c.args.p3} c.if-not-p3.false-raw, not_false {b = c.args.p2} c.if-not-p2.false-raw, not_false {b = c.args.p1} c.if-not-p1.false-raw)
-
-pub returns-then-not-p6 : goal.returns-then-not-p6
-unfolding first_broken
-returns-then-not-p6 c = simp (not_true {b = c.args.p6} c.if-not-p6.true-raw, not_false {b = c.args.p5} c.if-not-p5.false-raw, not_false {b = c.args.p4} c.if-not-p4.false-raw, not_false {b = c.args.p3} c.if-not-p3.false-raw, not_false {b = c.args.p2} c.if-not-p2.false-raw, not_false {b = c.args.p1} c.if-not-p1.false-raw)
-
-pub returns-then-not-p7 : goal.returns-then-not-p7
-unfolding first_broken
-returns-then-not-p7 c = simp (not_true {b = c.args.p7} c.if-not-p7.true-raw, not_false {b = c.args.p6} c.if-not-p6.false-raw, not_false {b = c.args.p5} c.if-not-p5.false-raw, not_false {b = c.args.p4} c.if-not-p4.false-raw, not_false {b = c.args.p3} c.if-not-p3.false-raw, not_false {b = c.args.p2} c.if-not-p2.false-raw, not_false {b = c.args.p1} c.if-not-p1.false-raw)
-
-pub returns-then-not-p8 : goal.returns-then-not-p8
-unfolding first_broken
-returns-then-not-p8 c = simp (not_true {b = c.args.p8} c.if-not-p8.true-raw, not_false {b = c.args.p7} c.if-not-p7.false-raw, not_false {b = c.args.p6} c.if-not-p6.false-raw, not_false {b = c.args.p5} c.if-not-p5.false-raw, not_false {b = c.args.p4} c.if-not-p4.false-raw, not_false {b = c.args.p3} c.if-not-p3.false-raw, not_false {b = c.args.p2} c.if-not-p2.false-raw, not_false {b = c.args.p1} c.if-not-p1.false-raw)
+pub loop-i-preserved : goal.loop-i-preserved
+loop-i-preserved c =
+    let i = c.loop-i.i in
+    rw (add-one i) (c.loop-i.invariant ∙ next c.args.kept.now i false (omega (arith, c.told-kept, c.loop-i-test.true)) ∙ rw c.if-not-is_kept.false refl)
 
 pub returns : goal.returns
 unfolding first_broken
-returns c = simp (not_false {b = c.args.p8} c.if-not-p8.false-raw, not_false {b = c.args.p7} c.if-not-p7.false-raw, not_false {b = c.args.p6} c.if-not-p6.false-raw, not_false {b = c.args.p5} c.if-not-p5.false-raw, not_false {b = c.args.p4} c.if-not-p4.false-raw, not_false {b = c.args.p3} c.if-not-p3.false-raw, not_false {b = c.args.p2} c.if-not-p2.false-raw, not_false {b = c.args.p1} c.if-not-p1.false-raw)
+returns c = sym (c.loop-i.invariant ∙ rw (drop_of_length-le c.args.kept.now {i = c.loop-i.i} (omega (arith, c.told-kept, c.loop-i-test.false))) refl)

@@ -1,37 +1,44 @@
+use mathlib.Core.Path.{refl, sym, ◌∙◌}
+use Rattle.protocol.proofs.Tests.{absurd_bool}
 use Rattle.judge_premise_3.proofs.Accepted.{few_heads}
-use Rattle.judge_premises_5_to_8.proofs.Reached.{p_low, takes_no_part, start_unreached, votes_reached_lem, no_adjust_turn, adjusts_reached_lem}
+use Rattle.judge_premises_5_to_8.proofs.Reached.{p_low, votes_by_row, adjusts_by_row}
 use Rattle.judge_premises_5_to_8.proofs.head_reached.Goals as goal
+use Rattle.judge_premises_5_to_8.proofs.head_reached.Goals.{then-heads-i, else-heads-i}
 
-pub returns-then-not-heads-i : goal.returns-then-not-heads-i
-returns-then-not-heads-i c =
+pub returns-then-own_start_reached : goal.returns-then-own_start_reached
+returns-then-own_start_reached c =
     let A = c.args in
-    λ ws j s S g-is sets times correct unclosed.
-    takes_no_part S g-is A.p correct _ c.head_index-i.ensures A.phase sets c.if-phase-eq0.true unclosed c.has_mark.ensures c.if-not-heads-i.true-raw
-
-pub returns-then-not-own_start_reached : goal.returns-then-not-own_start_reached
-returns-then-not-own_start_reached c =
-    let A = c.args in
-    λ ws j s S g-is sets times correct unclosed.
     let i-is = c.head_index-i.ensures in
-    start_unreached S g-is A.p correct _ i-is A.phase sets c.if-phase-eq0.true unclosed c.has_mark.ensures c.if-not-heads-i.false-raw
-    (c.own_start_reached.ensures s times (p_low S g-is A.p correct _ i-is) (few_heads S g-is)) c.if-not-own_start_reached.true-raw
-
-pub returns-then-phase-eq0 : goal.returns-then-phase-eq0
-returns-then-phase-eq0 c =
-    let A = c.args in
     λ ws j s S g-is sets times correct unclosed.
+    elim c.if-heads-i.branch [
+      | then-heads-i w ↦
+          let start = w.own_start_reached.ensures s times (p_low S g-is A.p correct _ i-is) (few_heads S g-is) in
+          rw c.in-Votes.is (sym (votes_by_row S g-is A.p correct _ i-is sets (rw c.in-Votes.is at unclosed)
+          ∙ rw (← c.has.ensures, w.if-heads-i.true, ← start, ← w.value-is, c.if-own_start_reached.true) (sym c.has_reached.ensures)))
+      | else-heads-i w ↦ absurd_bool c.if-own_start_reached.true (w.value-is ∙ w.if-heads-i.false)
+    ]
+
+pub returns-else-own_start_reached : goal.returns-else-own_start_reached
+returns-else-own_start_reached c =
+    let A = c.args in
     let i-is = c.head_index-i.ensures in
-    votes_reached_lem S g-is A.p correct _ i-is A.phase sets c.if-phase-eq0.true unclosed c.has_mark.ensures c.if-not-heads-i.false-raw
-    (c.own_start_reached.ensures s times (p_low S g-is A.p correct _ i-is) (few_heads S g-is)) c.if-not-own_start_reached.false-raw c.frames_reached.ensures
-
-pub returns-then-not-has_mark-heads : goal.returns-then-not-has_mark-heads
-returns-then-not-has_mark-heads c =
-    let A = c.args in
     λ ws j s S g-is sets times correct unclosed.
-    no_adjust_turn S g-is A.p correct _ c.head_index-i.ensures A.phase sets c.if-phase-eq0.false c.has_mark-2.ensures c.if-not-has_mark-heads.true-raw
+    elim c.if-heads-i.branch [
+      | then-heads-i w ↦
+          let start = w.own_start_reached.ensures s times (p_low S g-is A.p correct _ i-is) (few_heads S g-is) in
+          rw c.in-Votes.is (c.if-own_start_reached.false ∙ sym (votes_by_row S g-is A.p correct _ i-is sets (rw c.in-Votes.is at unclosed)
+          ∙ rw (← c.has.ensures, w.if-heads-i.true, ← start, ← w.value-is, c.if-own_start_reached.false) refl))
+      | else-heads-i w ↦
+          rw c.in-Votes.is (c.if-own_start_reached.false ∙ sym (votes_by_row S g-is A.p correct _ i-is sets (rw c.in-Votes.is at unclosed)
+          ∙ rw (← c.has.ensures, w.if-heads-i.false) refl))
+    ]
 
-pub returns : goal.returns
-returns c =
-    let A = c.args in
+pub returns-then-has-heads : goal.returns-then-has-heads
+returns-then-has-heads c =
     λ ws j s S g-is sets times correct unclosed.
-    adjusts_reached_lem S g-is A.p correct _ c.head_index-i.ensures A.phase sets c.if-phase-eq0.false c.has_mark-2.ensures c.if-not-has_mark-heads.false-raw c.frames_reached-2.ensures
+    rw c.in-Adjusts.is (sym (adjusts_by_row S g-is c.args.p correct _ c.head_index-i.ensures sets ∙ rw (← c.has-in-Adjusts.ensures, c.if-has-heads.true) (sym c.has_reached-then-has-heads.ensures)))
+
+pub returns-else-has-heads : goal.returns-else-has-heads
+returns-else-has-heads c =
+    λ ws j s S g-is sets times correct unclosed.
+    rw c.in-Adjusts.is (c.if-has-heads.false ∙ sym (adjusts_by_row S g-is c.args.p correct _ c.head_index-i.ensures sets ∙ rw (← c.has-in-Adjusts.ensures, c.if-has-heads.false) refl))

@@ -2,6 +2,7 @@ use mathlib.Core.Path.{sym, ◌∙◌}
 use mathlib.Core.Bool.{true, false}
 use Rattle.protocol.proofs.Tests.{not_false}
 use Rattle.sheet_entry.proofs.Verdicts.{bad_entry, time_fell, reading_fell, rest_is_open}
+use borrow.Author.Rules.{rules}
 use Rattle.sheet_entry.proofs.entry_verdict.Goals as goal
 
 pub returns-then-not-fits : goal.returns-then-not-fits

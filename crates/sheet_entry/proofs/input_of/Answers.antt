@@ -1,5 +1,6 @@
 use mathlib.Core.Path.{◌∙◌}
 use Rattle.sheet_entry.proofs.Inputs.{vote_input, adjust_input, plain_input}
+use borrow.Author.Rules.{rules}
 use Rattle.sheet_entry.proofs.input_of.Goals as goal
 
 pub returns-in-5 : goal.returns-in-5

@@ -1,4 +1,5 @@
 use Rattle.sheet_entry.proofs.Frames.{stores_frame, keeps_frames}
+use borrow.Author.Rules.{rules}
 use Rattle.sheet_entry.proofs.keep_frame.Goals as goal
 
 pub returns-then-x-ge5 : goal.returns-then-x-ge5

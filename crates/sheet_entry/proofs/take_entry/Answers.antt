@@ -1,6 +1,7 @@
 use mathlib.Core.Path.{ap}
 use Rattle.protocol.specs.declared.Entry.{Entry}
 use Rattle.sheet_entry.proofs.Steps.{heads_after, frame_after}
+use borrow.Author.Rules.{rules}
 use Rattle.sheet_entry.proofs.take_entry.Goals as goal
 
 pub returns : goal.returns

@@ -1,4 +1,5 @@
 use Rattle.sheet_open.proofs.Open.{at_index, closed_there, open_there}
+use borrow.Author.Rules.{rules}
 use Rattle.sheet_open.proofs.is_open.Goals as goal
 
 pub open_index-i-requires : goal.open_index-i-requires

@@ -2,10 +2,11 @@ use mathlib.Core.Path.{◌∙◌}
 use Rattle.protocol.specs.Record.{votes, adjusts}
 use Rattle.sheet_open.proofs.Open.{start_passes, frame_passes, others_pass}
 use native.Mathlib.Omega.{arith}
+use borrow.Author.Rules.{rules}
 use Rattle.sheet_open.proofs.sender_passes.Goals as goal
 
 pub returns-then-a-eq2 : goal.returns-then-a-eq2
-returns-then-a-eq2 c = λ ws i s now is. c.has_mark.ensures ∙ start_passes now is _ c.head_index-p.ensures c.if-a-eq2.true
+returns-then-a-eq2 c = λ ws i s now is. c.has.ensures ∙ start_passes now is _ c.head_index-p.ensures c.if-a-eq2.true
 
 pub returns-then-a-lt5 : goal.returns-then-a-lt5
 returns-then-a-lt5 c = λ ws i s now is. let low = c.if-a-lt5.true in others_pass s c.args.e c.if-a-eq2.false (λ z. omega arith) (λ z. omega arith)

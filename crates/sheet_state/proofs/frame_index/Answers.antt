@@ -1,5 +1,6 @@
 use borrow.Author.Tests.{eq-eqb, ne_eqb}
 use native.Mathlib.Omega.{arith}
+use borrow.Author.Rules.{rules}
 use Rattle.sheet_state.proofs.frame_index.Goals as goal
 
 pub returns-then-a-eq8 : goal.returns-then-a-eq8

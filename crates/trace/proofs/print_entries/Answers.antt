@@ -1,6 +1,6 @@
--- `print_entries`: an entry that was shown is one of the sheet's.
-use native.Mathlib.Omega.{arith}
+-- `print_entries`: an accepted sheet has its first two words.
+use Rattle.protocol.proofs.Fits.{sheet_fits}
 use Rattle.trace.proofs.print_entries.Goals as goal
 
-pub loop-l-smaller : goal.loop-l-smaller
-loop-l-smaller g c = let reached = (c.trace_next-t.ensures.1 _ c.in-After.is).reached in omega arith
+pub entry_count-i-end-requires : goal.entry_count-i-end-requires
+entry_count-i-end-requires g c = (sheet_fits c.args.sheet.now c.requires).at_least_two

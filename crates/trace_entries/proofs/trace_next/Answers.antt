@@ -10,28 +10,28 @@ entry_count-requires c = (sheet_sized _ c.requires.0.sheet).0
 pub read_entry-r-requires : goal.read_entry-r-requires
 read_entry-r-requires c =
     let sheet = c.requires.0.sheet in
-    (entry_inside _ sheet c.entry_count.ensures c.if-i-entry_count.true, (sheet_sized _ sheet).1, ap (λ (g : Setting). g.n) c.setting_at-g.ensures)
+    (entry_inside _ sheet c.entry_count.ensures c.if-entry_count-i.false, (sheet_sized _ sheet).1, ap (λ (g : Setting). g.n) c.setting_at.ensures)
 
-pub entry_verdict-v-requires : goal.entry_verdict-v-requires
-entry_verdict-v-requires c =
+pub entry_verdict-requires : goal.entry_verdict-requires
+entry_verdict-requires c =
     let p = c.requires in
     let r = c.read_entry-r.ensures in
     (λ fits. in_table p.0.stands r.0 (sym r.1 ∙ fits), p.1)
 
-pub returns-in-Refused : goal.returns-in-Refused
-returns-in-Refused c =
+pub returns-in-Err : goal.returns-in-Err
+returns-in-Err c =
     let f = c.requires.0 in
-    let says = c.entry_verdict-v.ensures _ _ f.past f.stands f.time_is c.read_entry-r.ensures.0 c.read_entry-r.ensures.1 in
-    refused_next f c.entry_count.ensures c.if-i-entry_count.true _ (sym says ∙ c.in-Refused.is)
+    let says = c.entry_verdict.ensures _ _ f.past f.stands f.time_is c.read_entry-r.ensures.0 c.read_entry-r.ensures.1 in
+    refused_next f c.entry_count.ensures c.if-entry_count-i.false _ (sym says ∙ c.in-Err.is)
 
-pub returns-in-Accepted : goal.returns-in-Accepted
-returns-in-Accepted c =
+pub returns-in-Ok : goal.returns-in-Ok
+returns-in-Ok c =
     let f = c.requires.0 in
     let e-is = c.read_entry-r.ensures.0 in
-    let says = c.entry_verdict-v.ensures _ _ f.past f.stands f.time_is e-is c.read_entry-r.ensures.1 in
-    let accepted = sym says ∙ c.in-Accepted.is in
-    accepted_next f c.entry_count.ensures c.if-i-entry_count.true accepted
+    let says = c.entry_verdict.ensures _ _ f.past f.stands f.time_is e-is c.read_entry-r.ensures.1 in
+    let accepted = sym says ∙ c.in-Ok.is in
+    accepted_next f c.entry_count.ensures c.if-entry_count-i.false accepted
     (c.take_entry.ensures _ _ f.past f.stands f.carries e-is accepted) _ _ _ _ _ e-is c.head_index-h.ensures refl refl c.line_of.ensures
 
-pub returns-else-i-entry_count : goal.returns-else-i-entry_count
-returns-else-i-entry_count c = ended_next c.requires.0 c.entry_count.ensures c.if-i-entry_count.false
+pub returns-then-entry_count-i : goal.returns-then-entry_count-i
+returns-then-entry_count-i c = ended_next c.requires.0 c.entry_count.ensures c.if-entry_count-i.true

@@ -1,4 +1,5 @@
 use Rattle.board_c.proofs.Frames.{vote_of_none, vote_of_reading, other_frame}
+use borrow.Author.Rules.{rules}
 use Rattle.board_c.proofs.numbers.frame_numbers.Goals as goal
 
 pub returns-then-s-eq0 : goal.returns-then-s-eq0

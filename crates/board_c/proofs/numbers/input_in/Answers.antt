@@ -1,3 +1,4 @@
+use borrow.Author.Rules.{rules}
 use Rattle.board_c.proofs.numbers.input_in.Goals as goal
 
 pub returns : goal.returns

@@ -1,10 +1,11 @@
 use Rattle.protocol.specs.Record.{chosen_start}
+use Rattle.std.proofs.Common.{rules}
 use Rattle.head_by_value.proofs.ending.chosen_start.Goals as goal
 
-pub returns-in-NoNumber : goal.returns-in-NoNumber
+pub returns-in-None : goal.returns-in-None
 unfolding chosen_start
-returns-in-NoNumber c = simp c.in-NoNumber.is
+returns-in-None c = simp c.in-None.is
 
-pub returns-in-SomeNumber : goal.returns-in-SomeNumber
+pub returns-in-Some : goal.returns-in-Some
 unfolding chosen_start
-returns-in-SomeNumber c = simp (c.start_at.ensures, c.in-SomeNumber.is)
+returns-in-Some c = simp (c.start_at.ensures, c.in-Some.is)

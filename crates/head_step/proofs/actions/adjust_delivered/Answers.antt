@@ -1,14 +1,15 @@
 use Rattle.head_step.proofs.Effects.{adjust_passed_over, adjust_taken_lem}
+use Rattle.std.proofs.Common.{rules}
 use Rattle.head_step.proofs.actions.adjust_delivered.Goals as goal
 
 pub returns-then-passed_over : goal.returns-then-passed_over
 returns-then-passed_over c =
     λ lp ls la r is fit.
-    adjust_passed_over _ _ _ _ _ _ _ _ c.head_index.ensures c.has_mark.ensures c.passed_over.ensures
+    adjust_passed_over _ _ _ _ _ _ _ _ c.head_index.ensures c.has.ensures c.passed_over.ensures
     lp ls la r is fit _ c.if-passed_over.true c.no_frame.ensures
 
 pub returns : goal.returns
 returns c =
     λ lp ls la r is fit.
-    adjust_taken_lem _ _ _ _ _ _ _ _ c.head_index.ensures c.has_mark.ensures c.passed_over.ensures
+    adjust_taken_lem _ _ _ _ _ _ _ _ c.head_index.ensures c.has.ensures c.passed_over.ensures
     lp ls la r is fit _ _ _ c.if-passed_over.false c.take_adjust-s.ensures c.close_early.ensures

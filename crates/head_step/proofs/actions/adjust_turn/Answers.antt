@@ -1,4 +1,4 @@
-use Rattle.std.proofs.Common.{refl}
+use Rattle.std.proofs.Common.{refl, rules}
 use Rattle.protocol.specs.declared.Action.TheVariants.{AdjustTurn}
 use Rattle.protocol.specs.Record.{adjusts}
 use Rattle.protocol.specs.Step.{taken_as}
@@ -10,4 +10,4 @@ unfolding taken_as
 returns-then-row-eq1 c = spent_acts adjusts AdjustTurn _ _ (λ r. refl) c.if-row-eq1.true c.no_frame.ensures
 
 pub returns : goal.returns
-returns c = adjust_turn_acts _ _ _ _ _ c.close_early.ensures c.if-row-eq1.false c.with_mark.ensures c.propose-s.ensures
+returns c = adjust_turn_acts _ _ _ _ _ c.close_early.ensures c.if-row-eq1.false c.with-row.ensures c.propose-s.ensures

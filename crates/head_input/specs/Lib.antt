@@ -1,0 +1,2 @@
+-- The tests of a caller's numbers in parts.
+pub mod Parts

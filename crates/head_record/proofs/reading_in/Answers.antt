@@ -1,8 +1,0 @@
-use borrow.Author.Tests.{eq-eqb, ne_eqb}
-use Rattle.head_record.proofs.reading_in.Goals as goal
-
-pub returns-then-w-eq0 : goal.returns-then-w-eq0
-returns-then-w-eq0 c = simp (eq-eqb _ _ c.if-w-eq0.true)
-
-pub returns-else-w-eq0 : goal.returns-else-w-eq0
-returns-else-w-eq0 c = simp (ne_eqb _ _ c.if-w-eq0.false)

@@ -1,2 +1,0 @@
--- What the proof of `entry_fits` cites.
-mod Fits
