@@ -3,9 +3,15 @@
 #![tactic(auto)]
 
 use data_bytes::word_at;
-use print_replay::Printout;
+use print_replay::print;
 use read_input::fill;
 use std::io::{self, Read};
+
+fn print_sheet(rt: &impl Print, bytes: &[u8]) -> io::Result<()> {
+    let mut out = [0u8; 1024];
+    let m = print(bytes, &mut out);
+    rt.write_all(&out[..m])
+}
 
 // Prints the next sheet, and answers whether there was one.
 fn print_next(rt: &impl Print, input: &mut impl Read) -> io::Result<bool> {
@@ -19,8 +25,7 @@ fn print_next(rt: &impl Print, input: &mut impl Read) -> io::Result<bool> {
     }
     let mut buffer = [0u8; 65536];
     let n = fill(input, &mut buffer[..length])?;
-    let all = Printout::of(&buffer[..n]);
-    print!(rt; "{all}")?;
+    print_sheet(rt, &buffer[..n])?;
     Ok(true)
 }
 

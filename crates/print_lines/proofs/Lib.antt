@@ -1,3 +1,3 @@
 -- Laws that the proofs of this crate's functions, and their callers, cite.
-pub mod Digits
+pub mod Lines
 pub mod Lengths

@@ -1,14 +1,37 @@
-//! The lines that the programs print, as values that print themselves: document 01, "The bench sheet, and its neighbours".
+//! The lines that the programs print, as values that write themselves into a lent buffer from a position on: document 01, "The bench
+//! sheet, and its neighbours". They have no `impl Display`: its contract speaks of the text only where `fmt` succeeds, so it would let
+//! through a line that is never written.
 #![tactic(auto)]
 
-ghost use Rattle.std.specs.Prelude.{◌≡◌, Some};
-ghost use Rattle.protocol.specs.Program.{broken_line};
+ghost use Rattle.std.specs.Prelude.{◌≡◌, [], ◌∷◌, ◌++◌};
+ghost use Rattle.protocol.specs.Program.{decimal, line, head_lines, broken_line};
+ghost use Rattle.print_text.specs.Written.{written, end_of};
 ghost use Rattle.print_lines.specs.Lines.{head_text, head_line_of, last_text, result_lines};
 
-use data_values::difference;
+use print_text::{put, put_decimal, put_difference, put_text};
 use protocol::{Cause, TIME_LIMIT};
 use sheet_results::result_word;
-use std::fmt;
+
+// "One blank stands between fields"; each line ends with a newline
+const BLANK: u8 = 32;
+
+pub const NEWLINE: u8 = 10;
+
+/// A field, and the blank behind it.
+pub fn put_field(x: u64, out: &mut [u8], at: usize) -> usize
+    ensures { (out.new ≡ written out.old at (decimal x ++ (32 ∷ []))) × (result ≡ end_of at (decimal x ++ (32 ∷ []))) }
+{
+    let p = put_decimal(out, at, x);
+    put(out, p, BLANK)
+}
+
+// The last field, and the newline behind it.
+fn put_last(x: u64, out: &mut [u8], at: usize) -> usize
+    ensures { (out.new ≡ written out.old at (line (decimal x ∷ []))) × (result ≡ end_of at (line (decimal x ∷ []))) }
+{
+    let p = put_decimal(out, at, x);
+    put(out, p, NEWLINE)
+}
 
 /// How the round ended for a head.
 #[derive(Clone, Copy, Debug, PartialEq, Eq)]
@@ -37,26 +60,19 @@ impl HeadLine {
             start: result_word(results, q, 2) % TIME_LIMIT,
         }
     }
-}
 
-// "per head: head, outcome, candidate, adjuster, adjustment, start reading, correction"
-impl fmt::Display for HeadLine {
-    ghost output = { λ x. Some (head_text x) };
-
-    fn fmt<W: fmt::Write>(&self, f: &mut fmt::Formatter<W>) -> fmt::Result {
-        let HeadLine {
-            head,
-            outcome,
-            candidate,
-            adjuster,
-            adjustment,
-            start,
-        } = *self;
-        let correction = difference(adjustment, start);
-        writeln!(
-            f,
-            "{head} {outcome} {candidate} {adjuster} {adjustment} {start} {correction}"
-        )
+    /// "per head: head, outcome, candidate, adjuster, adjustment, start reading, correction"
+    pub fn put(self, out: &mut [u8], at: usize) -> usize
+        ensures { (out.new ≡ written out.old at (head_text self)) × (result ≡ end_of at (head_text self)) }
+    {
+        let p = put_field(self.head as u64, out, at);
+        let p = put_field(self.outcome as u64, out, p);
+        let p = put_field(self.candidate as u64, out, p);
+        let p = put_field(self.adjuster as u64, out, p);
+        let p = put_field(self.adjustment as u64, out, p);
+        let p = put_field(self.start as u64, out, p);
+        let p = put_difference(out, p, self.adjustment, self.start);
+        put(out, p, NEWLINE)
     }
 }
 
@@ -80,23 +96,53 @@ impl LastLine {
             _ => LastLine::BrokenAt(premise, entry),
         }
     }
-}
 
-impl fmt::Display for LastLine {
-    ghost output = { λ x. Some (last_text x) };
-
-    #[tactic(auto, using(crate::proofs::Digits::decimal_same), unfolding(protocol::specs::Program::line, protocol::specs::Program::premises_line))]
-    fn fmt<W: fmt::Write>(&self, f: &mut fmt::Formatter<W>) -> fmt::Result {
-        match *self {
-            LastLine::Premises(i) => writeln!(f, "premises {i}"),
-            LastLine::BrokenAtEnd(i) => writeln!(f, "premises {i} end"),
-            LastLine::BrokenAt(i, k) => writeln!(f, "premises {i} entry {k}"),
-            LastLine::Refused(c, p) => {
-                let number = u32::from(c);
-                writeln!(f, "refused {number} {p}")
+    /// "`premises` and the first broken premise or 0"; "or only `refused`, number, place"
+    pub fn put(self, out: &mut [u8], at: usize) -> usize
+        ensures { (out.new ≡ written out.old at (last_text self)) × (result ≡ end_of at (last_text self)) }
+    {
+        match self {
+            LastLine::Premises(premise) => {
+                let p = put_text(out, at, b"premises ");
+                put_last(premise as u64, out, p)
+            }
+            LastLine::BrokenAtEnd(premise) => {
+                let p = put_text(out, at, b"premises ");
+                let p = put_field(premise as u64, out, p);
+                put_text(out, p, b"end\n")
+            }
+            LastLine::BrokenAt(premise, entry) => {
+                let p = put_text(out, at, b"premises ");
+                let p = put_field(premise as u64, out, p);
+                let p = put_text(out, p, b"entry ");
+                put_last(entry as u64, out, p)
+            }
+            LastLine::Refused(cause, place) => {
+                let p = put_text(out, at, b"refused ");
+                let p = put_field(u32::from(cause) as u64, out, p);
+                put_last(place as u64, out, p)
             }
         }
     }
+}
+
+// The lines of the first n heads.
+fn put_head_lines(results: &[u32], n: u8, out: &mut [u8], at: usize) -> usize
+    ensures { (out.new ≡ written out.old at (head_lines results.now n)) × (result ≡ end_of at (head_lines results.now n)) }
+{
+    let mut p = at;
+    for q in 0..n {
+        p = HeadLine::of(results, q).put(out, p);
+    }
+    p
+}
+
+/// The heads' lines, and the line of the premises.
+pub fn put_results(results: &[u32], n: u8, premise: u8, out: &mut [u8], at: usize) -> usize
+    ensures { (out.new ≡ written out.old at (result_lines results.now n premise)) × (result ≡ end_of at (result_lines results.now n premise)) }
+{
+    let p = put_head_lines(results, n, out, at);
+    LastLine::Premises(premise).put(out, p)
 }
 
 /// What a run leaves that is not turned back: the result words of n heads, and the first broken premise or 0.
@@ -107,16 +153,10 @@ pub struct Results {
     pub premise: u8,
 }
 
-impl fmt::Display for Results {
-    ghost output = { λ x. Some (result_lines x.words x.n x.premise) };
-
-    #[tactic(auto, unfolding(crate::specs::Lines::result_lines, crate::specs::Lines::head_line_of, protocol::specs::Program::head_lines))]
-    fn fmt<W: fmt::Write>(&self, f: &mut fmt::Formatter<W>) -> fmt::Result {
-        for q in 0..self.n {
-            let line = HeadLine::of(&self.words, q);
-            write!(f, "{line}")?;
-        }
-        let last = LastLine::Premises(self.premise);
-        write!(f, "{last}")
+impl Results {
+    pub fn put(&self, out: &mut [u8], at: usize) -> usize
+        ensures { (out.new ≡ written out.old at (result_lines self.now.words self.now.n self.now.premise)) × (result ≡ end_of at (result_lines self.now.words self.now.n self.now.premise)) }
+    {
+        put_results(&self.words, self.n, self.premise, out, at)
     }
 }

@@ -1,9 +1,10 @@
-//! What the replay program prints: document 01, "The bench sheet, and its neighbours".
+//! What the replay program prints, into a lent buffer: document 01, "The bench sheet, and its neighbours".
 #![tactic(auto)]
 
-ghost use Rattle.std.specs.Prelude.{◌≡◌, ◌≤◌, length, Some};
+ghost use Rattle.std.specs.Prelude.{◌≡◌, ◌≤◌, length};
 ghost use Rattle.protocol.specs.Premises.{premise_number};
 ghost use Rattle.protocol.specs.Program.{print_sheet, printed};
+ghost use Rattle.print_text.specs.Written.{written, end_of};
 ghost use Rattle.print_replay.specs.Printout.{text_of, printout_text};
 
 use data_bytes::{big_endian, bytes_verdict};
@@ -11,7 +12,6 @@ use judge_sheet::replay_and_judge;
 use print_lines::{LastLine, Results};
 use protocol::Refusal;
 use sheet_words::setting_at;
-use std::fmt;
 
 /// All that is printed of a sheet's bytes: the results, or why it is turned back.
 #[derive(Clone, Copy)]
@@ -25,20 +25,22 @@ impl Printout {
     {
         Printout(results_of_bytes(bytes))
     }
-}
 
-impl fmt::Display for Printout {
-    ghost output = { λ x. Some (printout_text x) };
-
-    fn fmt<W: fmt::Write>(&self, f: &mut fmt::Formatter<W>) -> fmt::Result {
+    pub fn put(&self, out: &mut [u8], at: usize) -> usize
+        ensures { (out.new ≡ written out.old at (printout_text self.now)) × (result ≡ end_of at (printout_text self.now)) }
+    {
         match self.0 {
-            Ok(results) => write!(f, "{results}"),
-            Err(Refusal { cause, place }) => {
-                let line = LastLine::Refused(cause, place);
-                write!(f, "{line}")
-            }
+            Ok(results) => results.put(out, at),
+            Err(Refusal { cause, place }) => LastLine::Refused(cause, place).put(out, at),
         }
     }
+}
+
+/// What is printed of a sheet's bytes.
+pub fn print(bytes: &[u8], out: &mut [u8]) -> usize
+    ensures { (out.new ≡ written out.old 0 (printed bytes.now)) × (result ≡ length (printed bytes.now)) × (result ≤ 1024) }
+{
+    Printout::of(bytes).put(out, 0)
 }
 
 fn premise_number(judged: Result<Option<u8>, Refusal>) -> u8

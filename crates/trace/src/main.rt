@@ -14,9 +14,21 @@ use read_input::fill;
 use sheet_open::open_actions;
 use sheet_words::{entry_count, sheet_verdict};
 use std::io;
-use trace_entries::{first_heads, trace_next};
-use trace_last::last_line;
-use trace_text::EntryLine;
+use trace_entries::{Line, first_heads, trace_next};
+use trace_last::put_last_line;
+use trace_text::put_entry_line;
+
+fn print_line(rt: &impl Print, i: usize, line: Line) -> io::Result<()> {
+    let mut out = [0u8; 175];
+    let n = put_entry_line(i, line, &mut out);
+    rt.write_all(&out[..n])
+}
+
+fn print_last(rt: &impl Print, bytes: &[u8]) -> io::Result<()> {
+    let mut out = [0u8; 64];
+    let n = put_last_line(bytes, &mut out);
+    rt.write_all(&out[..n])
+}
 
 // Prints the entries of an accepted sheet, up to one that is refused.
 fn print_entries(rt: &impl Print, sheet: &[u32]) -> io::Result<()>
@@ -39,8 +51,7 @@ fn print_entries(rt: &impl Print, sheet: &[u32]) -> io::Result<()>
         ) else {
             break;
         };
-        let entry = EntryLine::of(i, line);
-        print!(rt; "{entry}")?;
+        print_line(rt, i, line)?;
         time = line.time.0;
     }
     Ok(())
@@ -63,6 +74,5 @@ fn main(rt: HostRuntime) -> io::Result<()> {
     let n = fill(&mut rt.stdin(), &mut buffer)?;
     let bytes = &buffer[..n];
     print_bytes(&rt, bytes)?;
-    let last = last_line(bytes);
-    print!(rt; "{last}")
+    print_last(&rt, bytes)
 }

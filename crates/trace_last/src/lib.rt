@@ -1,9 +1,10 @@
-//! The last line that trace prints: the cause of a sheet that is turned back; of another the first broken premise or 0, and where
-//! it was broken.
+//! The last line that trace prints, into a lent buffer: the cause of a sheet that is turned back; of another the first broken premise
+//! or 0, and where it was broken.
 #![tactic(auto)]
 
 ghost use Rattle.std.specs.Prelude.{◌≡◌, ◌≤◌, length};
 ghost use Rattle.protocol.specs.Program.{last_line, last_line_of_bytes};
+ghost use Rattle.print_text.specs.Written.{written};
 ghost use Rattle.print_lines.specs.Lines.{last_text};
 
 use data_bytes::{big_endian, bytes_verdict};
@@ -32,4 +33,11 @@ pub fn last_line(bytes: &[u8]) -> LastLine
     }
     let words = big_endian(bytes);
     line_of_sheet(&words[..bytes.len() / 4])
+}
+
+/// What is printed last of a sheet's bytes, from the buffer's first byte on; back comes its length.
+pub fn put_last_line(bytes: &[u8], out: &mut [u8]) -> usize
+    ensures { (out.new ≡ written out.old 0 (last_line_of_bytes bytes.now)) × (result ≡ length (last_line_of_bytes bytes.now)) × (result ≤ 64) }
+{
+    last_line(bytes).put(out, 0)
 }

@@ -2,25 +2,21 @@
 //! that the entry closed early, with `-` where there is none.
 #![tactic(auto)]
 
-ghost use Rattle.std.specs.Prelude.{◌≡◌, ◌≤◌, length, Some};
+ghost use Rattle.std.specs.Prelude.{◌≡◌, [], ◌∷◌, ◌++◌, ◌≤◌, length};
+ghost use Rattle.print_text.specs.Written.{written, end_of};
 ghost use Rattle.trace_text.specs.Text.{choice_text, early_text, entry_text, line_text};
 
-use std::fmt;
+use print_lines::{NEWLINE, put_field};
+use print_text::{put, put_text};
 use trace_entries::{Early, Line};
 
-// A number, or - for none.
-#[derive(Clone, Copy)]
-struct OrDash(Option<u32>);
-
-impl fmt::Display for OrDash {
-    ghost output = { λ x. Some (choice_text x.0) };
-
-    #[tactic(auto, using(print_lines::proofs::Digits::decimal_same))]
-    fn fmt<W: fmt::Write>(&self, f: &mut fmt::Formatter<W>) -> fmt::Result {
-        match self.0 {
-            None => write!(f, "-"),
-            Some(x) => write!(f, "{x}"),
-        }
+// A number, or - for none, and the blank behind it.
+fn put_choice(k: Option<u32>, out: &mut [u8], at: usize) -> usize
+    ensures { (out.new ≡ written out.old at (choice_text k ++ (32 ∷ []))) × (result ≡ end_of at (choice_text k ++ (32 ∷ []))) }
+{
+    match k {
+        None => put_text(out, at, b"- "),
+        Some(x) => put_field(x as u64, out, at),
     }
 }
 
@@ -69,27 +65,26 @@ impl EntryLine {
             early: line.early,
         }
     }
+
+    pub fn put(self, out: &mut [u8], at: usize) -> usize
+        ensures { (out.new ≡ written out.old at (line_text self)) × (result ≡ end_of at (line_text self)) }
+    {
+        let p = put_field(self.index as u64, out, at);
+        let p = put_field(self.time as u64, out, p);
+        let p = put_field(self.head as u64, out, p);
+        let p = put_field(self.action as u64, out, p);
+        let p = put_choice(self.candidate, out, p);
+        let p = put_choice(self.adjuster, out, p);
+        let p = put_choice(self.adjustment, out, p);
+        let p = put_field(self.outcome as u64, out, p);
+        let p = put_text(out, p, early_word(self.early).as_bytes());
+        put(out, p, NEWLINE)
+    }
 }
 
-impl fmt::Display for EntryLine {
-    ghost output = { λ x. Some (line_text x) };
-
-    fn fmt<W: fmt::Write>(&self, f: &mut fmt::Formatter<W>) -> fmt::Result {
-        let EntryLine {
-            index,
-            time,
-            head,
-            action,
-            outcome,
-            ..
-        } = *self;
-        let candidate = OrDash(self.candidate);
-        let adjuster = OrDash(self.adjuster);
-        let adjustment = OrDash(self.adjustment);
-        let early = early_word(self.early);
-        writeln!(
-            f,
-            "{index} {time} {head} {action} {candidate} {adjuster} {adjustment} {outcome} {early}"
-        )
-    }
+/// The line of entry `index`, from the buffer's first byte on; back comes its length.
+pub fn put_entry_line(index: usize, line: Line, out: &mut [u8]) -> usize
+    ensures { (out.new ≡ written out.old 0 (entry_text index line)) × (result ≡ length (entry_text index line)) × (result ≤ 175) }
+{
+    EntryLine::of(index, line).put(out, 0)
 }
