@@ -1,5 +1,5 @@
 -- Premise 2 of an entry with all of its head's entries before it, by the least gain and the least loss.
--- Main results: `drifts_next`, `steady_next`.
+-- Main results: `drifts_next`, `steady_next`, `least_held`, `kept_next`.
 use mathlib.Core.Path.{◌≡◌, refl, sym, ◌∙◌, ap, ap₂}
 use mathlib.Core.Bool.{Bool, true, false, cond, not, ◌&&◌}
 use mathlib.Core.List.{List, [], ◌∷◌}
@@ -30,7 +30,7 @@ use Rattle.std.specs.Int.{int_min}
 use Rattle.judge_premise_2.specs.declared.Drift.{Drift}
 use Rattle.judge_premise_2.specs.Drift.{gain_of, loss_of, drift_of, least_of, stays_steady}
 use Rattle.judge_premise_3.proofs.Accepted.{entry_time}
-use Rattle.judge_entry.specs.State.{least_drift, drifts_of}
+use Rattle.judge_entry.specs.State.{least_drift, drifts_of, keeps_premise_2}
 
 -- SIGNED NUMBERS
 
@@ -203,15 +203,16 @@ module _ (e : Event) (s : History) (small : e.entry.head < 16) where
       other : (q : ℕ) → eqb e.entry.head q ≡ false → least_drift drift (e ∷ s) q ≡ least_drift drift s q
       other q t = rw t refl
 
+  held : (g : Setting) → get_or (drifts_of g s) index beyond ≡ least_drift g.drift s e.entry.head
+  unfolding drifts_of
+  held g = table_at (least_drift g.drift s) 16 index beyond (omega arith) ∙ ap (least_drift g.drift s) (omega arith)
+
   premise_2_next : (g : Setting) → e.entry.time.0 < 2 ^ 28 → e.entry.reading.0 < 2 ^ 28 → Until e.entry.time.0 s
       → (stays_steady (is_correct g e.entry.head) g.drift e.entry (get_or (drifts_of g s) index beyond) && premise2 g s) ≡ premise2 g (e ∷ s)
-  unfolding premise2 each drifts_of
+  unfolding premise2 each
   premise_2_next g ft fr u =
-      ap (λ (d : Drift). stays_steady (is_correct g e.entry.head) g.drift e.entry d && premise2 g s) held
+      ap (λ (d : Drift). stays_steady (is_correct g e.entry.head) g.drift e.entry d && premise2 g s) (held g)
       ∙ ap (λ (b : Bool). (is_correct g e.entry.head ⇒ b) && premise2 g s) (sym (steady_with_all g.drift e.entry e.entry.head ft fr s u))
-    where
-      held : get_or (drifts_of g s) index beyond ≡ least_drift g.drift s e.entry.head
-      held = table_at (least_drift g.drift s) 16 index beyond (omega arith) ∙ ap (least_drift g.drift s) (omega arith)
 
 -- an accepted entry e of a sheet with setting g; h is its head's index
 module _ {ws : List ℕ} {i : ℕ} {s : History} {heads : List HeadRow} (now : Stands ws i s heads) (accepted : (answer_at ws i s).verdict ≡ Accepted)
@@ -224,3 +225,9 @@ module _ {ws : List ℕ} {i : ℕ} {s : History} {heads : List HeadRow} (now : S
   steady_next g-is =
       let t = next_taken now accepted in
       rw (are, at, e-is) (premise_2_next (event_at ws i s) s (entry_sized ws i).0 g (entry_time ws i) t.reading_below (until (valid_history now) _ t.time_rises))
+
+  pub least_held : get_or drifts h beyond ≡ least_drift g.drift s e.head
+  least_held = rw (are, at, e-is) (held (event_at ws i s) s (entry_sized ws i).0 g)
+
+  pub kept_next : (g ≡ setting_at ws) → (keeps_premise_2 g e s && premise2 g s) ≡ premise2 g (event_at ws i s ∷ s)
+  kept_next g-is = rw (← least_held) (steady_next g-is)

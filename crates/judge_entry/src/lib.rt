@@ -1,14 +1,14 @@
 //! What the judge keeps from entry to entry, and what the premises say at an accepted entry, on the heads' rows before it.
 #![tactic(auto)]
 
-ghost use Rattle.std.specs.Prelude.{◌≡◌, List, [], ◌∷◌, ℕ};
+ghost use Rattle.std.specs.Prelude.{◌≡◌, ◌&&◌, List, [], ◌∷◌, ℕ};
 ghost use Rattle.protocol.specs.declared.HeadRow.{HeadRow};
 ghost use Rattle.protocol.specs.Types.{Accepted};
 ghost use Rattle.protocol.specs.Words.{setting_at, entry_at};
 ghost use Rattle.protocol.specs.Run.{History};
 ghost use Rattle.protocol.specs.Premises.{premise2};
 ghost use Rattle.sheet_state.specs.Arrays.{answer_at, event_at, Stands};
-ghost use Rattle.judge_entry.specs.State.{drifts_of, judge_of};
+ghost use Rattle.judge_entry.specs.State.{drifts_of, keeps_premise_2, JudgeState, judge_of};
 
 use data_words::is_correct;
 use judge_premise_2::Drift;
@@ -54,9 +54,11 @@ impl Judge {
 
     /// Premise 2 of an accepted entry and those before it. It needs no rows, and asked last it costs the fewest instructions.
     pub fn keep_drift(&mut self, g: Setting, e: Entry)
-        ensures { (ws : List ℕ) (i : ℕ) (s : History) (heads : List HeadRow) → Stands ws i s heads → g ≡ setting_at ws → e ≡ entry_at ws i → (answer_at ws i s).verdict ≡ Accepted
-            → self.old.drifts ≡ drifts_of g s → self.old.steady ≡ premise2 g s
-            → self.new ≡ record self.old { drifts = drifts_of g (event_at ws i s ∷ s); steady = premise2 g (event_at ws i s ∷ s) } }
+        ensures others { self.new ≡ record self.old { drifts = self.new.drifts; steady = self.new.steady } }
+        ensures premise_2 { (ws : List ℕ) (i : ℕ) (s : History) (heads : List HeadRow) → Stands ws i s heads → g ≡ setting_at ws → e ≡ entry_at ws i → (answer_at ws i s).verdict ≡ Accepted
+            → self.old.drifts ≡ drifts_of g s
+            → (self.new.drifts ≡ drifts_of g (event_at ws i s ∷ s)) × (self.new.steady ≡ (keeps_premise_2 g e s && self.old.steady))
+            × ((keeps_premise_2 g e s && premise2 g s) ≡ premise2 g (event_at ws i s ∷ s)) }
     {
         let h = head_index(e.head);
         let before = self.drifts[h];
@@ -66,8 +68,9 @@ impl Judge {
 
     /// The other premises at an accepted entry, on the heads' rows before it. Its action is a number, as `Entry` has it.
     pub fn ask(&mut self, g: Setting, e: Entry, heads: &[HeadRow; 16])
-        ensures { (ws : List ℕ) (i : ℕ) (s : History) → Stands ws i s heads.now → g ≡ setting_at ws → e ≡ entry_at ws i → (answer_at ws i s).verdict ≡ Accepted
-            → self.old ≡ judge_of g s → self.new ≡ record (judge_of g (event_at ws i s ∷ s)) { drifts = drifts_of g s; steady = premise2 g s } }
+        ensures premise_2 { (self.new.drifts ≡ self.old.drifts) × (self.new.steady ≡ self.old.steady) }
+        ensures others { (ws : List ℕ) (i : ℕ) (s : History) → Stands ws i s heads.now → g ≡ setting_at ws → e ≡ entry_at ws i → (answer_at ws i s).verdict ≡ Accepted
+            → JudgeState g s self.old → JudgeState g (event_at ws i s ∷ s) self.new }
     {
         match e.action {
             2 => {

@@ -1,7 +1,7 @@
 -- The pass over the entries: what it keeps of the history so far, one entry on, and at the end.
 -- Main results: `first_keeps`; `entry_refused`, `keeps_next`; `pass_refused`, `found_now`, `pass_ends`.
 use mathlib.Core.Path.{◌≡◌, refl, sym, ◌∙◌, ap, subst}
-use mathlib.Core.Bool.{Bool, true}
+use mathlib.Core.Bool.{Bool, true, ◌&&◌}
 use mathlib.Core.List.{List, [], ◌∷◌}
 use Prim.Native.Nat.{ℕ, suc, ◌+◌, ◌-◌, ◌≤◌, ◌<◌}
 use native.Mathlib.Numerals.{add-one}
@@ -14,12 +14,13 @@ use Rattle.protocol.specs.declared.Cause.{Cause}
 use Rattle.protocol.specs.Types.{Verdict, Accepted, Refused, Judged, Unjudged}
 use Rattle.protocol.specs.Words.{setting_at, first_word_fits, place_of, entry_at, entry_fits_at}
 use Rattle.protocol.specs.Run.{History, last_time, frame_sent, stopped, ran, run_of}
-use Rattle.protocol.specs.Premises.{premise2, judge_run}
+use Rattle.protocol.specs.Premises.{premise2}
 use Rattle.protocol.proofs.Tables.{is_table}
 use Rattle.protocol.proofs.Runs.{goes_on, stops, stays_stopped}
 use Rattle.sheet_state.specs.Arrays.{head_rows, choices_of, carried_of, answer_at, event_at, Stands, Carries}
 use Rattle.judge_entry.specs.declared.Judge.{Judge}
-use Rattle.judge_entry.specs.State.{drifts_of, judge_of}
+use Rattle.judge_entry.specs.State.{drifts_of, keeps_premise_2, JudgeState, judge_of}
+use Rattle.judge_entry.proofs.Changes.{judge_parts, judge_whole, with_premise_2}
 use Rattle.judge_run.specs.declared.Pass.{Pass}
 use Rattle.judge_run.specs.Pass.{Keeps, Found, Passes, JudgedAt}
 
@@ -57,27 +58,31 @@ module _ {ws : List ℕ} {i : ℕ} {p : Pass} (k : Keeps ws i p) {e : Entry} {fi
   entry_refused {c} r = rw add-one (stops ws i k.stands.is_run c (sym verdict_is ∙ r))
 
   -- where it is accepted: what the judge and the step promise
-  pub keeps_next : v ≡ Accepted → {asked judge : Judge}
+  pub keeps_next : v ≡ Accepted → {asked judge : Judge} → asked.drifts ≡ p.judge.drifts → asked.steady ≡ p.judge.steady
       → ((us : List ℕ) (j : ℕ) (s : History) → Stands us j s p.heads → p.setting ≡ setting_at us → e ≡ entry_at us j → (answer_at us j s).verdict ≡ Accepted
-      → p.judge ≡ judge_of p.setting s → asked ≡ record (judge_of p.setting (event_at us j s ∷ s)) { drifts = drifts_of p.setting s; steady = premise2 p.setting s })
+      → JudgeState p.setting s p.judge → JudgeState p.setting (event_at us j s ∷ s) asked)
+      → judge ≡ record asked { drifts = judge.drifts; steady = judge.steady }
       → ((us : List ℕ) (j : ℕ) (s : History) (heads : List HeadRow) → Stands us j s heads → p.setting ≡ setting_at us → e ≡ entry_at us j → (answer_at us j s).verdict ≡ Accepted
-      → asked.drifts ≡ drifts_of p.setting s → asked.steady ≡ premise2 p.setting s
-      → judge ≡ record asked { drifts = drifts_of p.setting (event_at us j s ∷ s); steady = premise2 p.setting (event_at us j s ∷ s) })
+      → asked.drifts ≡ drifts_of p.setting s
+      → (judge.drifts ≡ drifts_of p.setting (event_at us j s ∷ s)) × (judge.steady ≡ (keeps_premise_2 p.setting e s && asked.steady))
+      × ((keeps_premise_2 p.setting e s && premise2 p.setting s) ≡ premise2 p.setting (event_at us j s ∷ s)))
       → {heads : List HeadRow} {choices carried : List ℕ}
       → ((us : List ℕ) (j : ℕ) (s : History) → Stands us j s p.heads → Carries s p.choices p.carried → e ≡ entry_at us j → (answer_at us j s).verdict ≡ Accepted
       → (heads ≡ head_rows (setting_at us) (event_at us j s ∷ s)) × Carries (event_at us j s ∷ s) choices carried)
       → Keeps ws (i + 1) (record { setting = p.setting; heads = heads; choices = choices; carried = carried; time = e.time.0; judge = judge })
-  keeps_next accepted asks drifts takes =
+  keeps_next accepted drifts_stay steady_stays asks others_stay drifts takes =
       let s = k.history in
       let answers : (answer_at ws i s).verdict ≡ Accepted = sym verdict_is ∙ accepted in
       let taken = takes ws i s k.stands k.carries e-is answers in
-      let asked_is = asks ws i s k.stands k.setting_is e-is answers k.judge_is in
+      let asked_is = asks ws i s k.stands k.setting_is e-is answers (judge_parts k.judge_is) in
+      let two = drifts ws i s p.heads k.stands k.setting_is e-is answers (drifts_stay ∙ ap (λ (j : Judge). j.drifts) k.judge_is) in
+      let kept = two.1 ∙ ap (λ (b : Bool). keeps_premise_2 p.setting e s && b) (steady_stays ∙ ap (λ (j : Judge). j.steady) k.judge_is) ∙ two.2 in
       record {
         setting_is = k.setting_is;
         history = event_at ws i s ∷ s;
         stands = record { first_fits = k.stands.first_fits; is_run = rw add-one (goes_on ws i k.stands.is_run answers); heads_are = taken.0 };
         carries = taken.1;
-        judge_is = rw asked_is at (drifts ws i s p.heads k.stands k.setting_is e-is answers (ap (λ (j : Judge). j.drifts) asked_is) (ap (λ (j : Judge). j.steady) asked_is));
+        judge_is = others_stay ∙ judge_whole (with_premise_2 asked_is) two.0 kept;
         time_is = ap (λ (x : Entry). x.time.0) e-is;
       }
 

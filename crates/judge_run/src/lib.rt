@@ -119,7 +119,7 @@ impl Pass {
         let table = open_actions();
         for i in 0..count {
             match self.take(sheet, i, &table) {
-                Err(_) => return i,
+                Err(_) => return 0,
                 Ok(()) => {
                     if self.is_broken(premise) {
                         return i;

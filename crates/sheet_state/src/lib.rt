@@ -10,6 +10,8 @@ use head_row::fresh_row;
 use protocol::{HeadRow, Setting};
 
 /// "Before the first entry every head's record is fresh": the rows of sixteen heads, of which the sheet has the first n.
+// Not inlined: where a struct has the rows as a field, they are then written in place, and no copies of parts of them take stack.
+#[inline(never)]
 pub fn fresh_heads(g: Setting) -> [HeadRow; 16]
     ensures { result ≡ head_rows g [] }
 {

@@ -16,4 +16,4 @@ returns-in-Err c =
 pub returns-in-Ok : goal.returns-in-Ok
 returns-in-Ok c =
     let r = c.read_entry-r.ensures in
-    keeps_next c.requires.2 r.0 r.1 c.entry_verdict.ensures c.in-Ok.is c.ask.ensures c.keep_drift.ensures c.take_entry.ensures
+    keeps_next c.requires.2 r.0 r.1 c.entry_verdict.ensures c.in-Ok.is c.ask.ensures.premise_2.0 c.ask.ensures.premise_2.1 c.ask.ensures.others c.keep_drift.ensures.others c.keep_drift.ensures.premise_2 c.take_entry.ensures
