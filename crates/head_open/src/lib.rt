@@ -2,10 +2,33 @@
 //! Actions go by their numbers: `closed_by` and `is_spent` (specs/Step.antt of protocol) are defined of any number.
 #![tactic(auto, unfolding(protocol::specs::Step::closed_by, protocol::specs::Step::is_spent))]
 
-ghost use Rattle.std.specs.Prelude.{◌≡◌, not, ◌&&◌};
+ghost use Rattle.std.specs.Prelude.{◌≡◌, ◌+◌, ◌%◌, ◌^◌, ◌<◌, not, ◌&&◌, if◌then◌else◌};
 ghost use Rattle.protocol.specs.Step.{has_mark, closed_by, is_spent};
 
 use protocol::{Mark, Marks};
+
+// The next two are for callers of the library whose marks are a plain number, with any weight: `Marks::has` and
+// `Marks::with` (crate protocol), which the heads' code takes, know the seven weights of a row alone.
+
+/// Whether the mark of this weight is among the marks.
+pub fn has_mark(marks: u32, weight: u32) -> bool
+    requires { 0 < weight }
+    ensures { result ≡ has_mark marks weight }
+{
+    marks / weight % 2 == 1
+}
+
+/// The marks with one more, if it is not among them.
+pub fn with_mark(marks: u32, weight: u32) -> u32
+    requires { 0 < weight }
+    ensures { result ≡ (if has_mark marks weight then marks else (marks + weight) % 2 ^ 32) }
+{
+    if has_mark(marks, weight) {
+        marks
+    } else {
+        marks.wrapping_add(weight)
+    }
+}
 
 /// With the vote open, no candidate.
 pub fn is_undecided(marks: Marks) -> bool
