@@ -1,7 +1,7 @@
 /* daisarnica_sheet.h: whole run sheets for programs written in C: one is written from its fields, drafted for practice, or
  * replayed and judged; and two readers of the result words that a replay leaves: a carriage display's and a bus planner's.
  *
- * A call takes no other memory than what is lent to it and at most some 17 KB of stack, has no state between calls, and
+ * A call takes no other memory than what is lent to it and at most some 14 KB of stack, has no state between calls, and
  * always returns. It needs memcpy and memset and nothing else.
  *
  * Every input has an answer: what is against the rules is turned back with its cause; the buffer is then left as it was,
