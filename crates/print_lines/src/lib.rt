@@ -61,7 +61,7 @@ impl HeadLine {
         }
     }
 
-    /// "per head: head, outcome, candidate, adjuster, adjustment, start reading, correction"
+    /// Writes the line from a position on: "per head: head, outcome, candidate, adjuster, adjustment, start reading, correction"
     pub fn put(self, out: &mut [u8], at: usize) -> usize
         ensures { (out.new ≡ written out.old at (head_text self)) × (result ≡ end_of at (head_text self)) }
     {
@@ -97,7 +97,7 @@ impl LastLine {
         }
     }
 
-    /// "`premises` and the first broken premise or 0"; "or only `refused`, number, place"
+    /// Writes the line from a position on: "`premises` and the first broken premise or 0"; "or only `refused`, number, place"
     pub fn put(self, out: &mut [u8], at: usize) -> usize
         ensures { (out.new ≡ written out.old at (last_text self)) × (result ≡ end_of at (last_text self)) }
     {
@@ -154,6 +154,7 @@ pub struct Results {
 }
 
 impl Results {
+    /// Writes the lines from a position on; back comes the position behind them.
     pub fn put(&self, out: &mut [u8], at: usize) -> usize
         ensures { (out.new ≡ written out.old at (result_lines self.now.words self.now.n self.now.premise)) × (result ≡ end_of at (result_lines self.now.words self.now.n self.now.premise)) }
     {

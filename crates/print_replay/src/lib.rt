@@ -26,6 +26,7 @@ impl Printout {
         Printout(results_of_bytes(bytes))
     }
 
+    /// Writes the text from a position on; back comes the position behind it.
     pub fn put(&self, out: &mut [u8], at: usize) -> usize
         ensures { (out.new ≡ written out.old at (printout_text self.now)) × (result ≡ end_of at (printout_text self.now)) }
     {
@@ -36,7 +37,7 @@ impl Printout {
     }
 }
 
-/// What is printed of a sheet's bytes.
+/// What is printed of a sheet's bytes, from the buffer's first byte on; back comes its length.
 pub fn print(bytes: &[u8], out: &mut [u8]) -> usize
     ensures { (out.new ≡ written out.old 0 (printed bytes.now)) × (result ≡ length (printed bytes.now)) × (result ≤ 1024) }
 {

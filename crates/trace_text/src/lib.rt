@@ -66,6 +66,7 @@ impl EntryLine {
         }
     }
 
+    /// Writes the line from a position on; back comes the position behind it.
     pub fn put(self, out: &mut [u8], at: usize) -> usize
         ensures { (out.new ≡ written out.old at (line_text self)) × (result ≡ end_of at (line_text self)) }
     {
